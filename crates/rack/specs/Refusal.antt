@@ -1,0 +1,189 @@
+-- The refusals: one table of what each check speaks of, and the order in which a call makes its checks.
+-- Assumes nothing.
+use Prim.Native.Nat.{ℕ, _+_, _<_, _≤_}
+use mathlib.Core.Path.{_≡_}
+use mathlib.Core.Bool.{Bool, true, false, not, _&&_}
+use mathlib.Core.List.{List, [], _∷_, List·Memᴰ}
+use mathlib.Core.Logic.{_⊎_}
+use lib.ListN.{length, getD}
+use lib.Dec.{T, ltb, eqb}
+use Rattle.walks.specs.Walk.{walks, ends}
+use Rattle.walks.specs.Few.{AtMost, MoreThan}
+use Rattle.rack.specs.Net.{firable, within}
+use Rattle.rack.specs.Follow.{ProductMarking, patternEnabled, patternFired, joins, final, step}
+use Rattle.rack.specs.Reach.{PatternReaches, ProductReaches}
+use Rattle.rack.specs.Run.{Explains}
+use Rattle.rack.specs.Verdict.{NoneExplains}
+use Rattle.rack.specs.Listing.{Asked, from-start, after}
+use Rattle.rack.specs.Layout.{ReadsAs, BreaksAt}
+use Rattle.rack.specs.Writing.{Writable}
+use Rattle.rack.specs.declared.Case.{Case}
+
+-- the checks of the table "Refusal numbers", and their numbers
+pub data Check : Type 0 where
+  work-room layout cycle pattern-count pattern-cap two-join final-left product-count system-cap unexplained lent-room limit given-run unwritable : Check
+
+abbrev pub number : Check → ℕ
+number work-room = 1
+number layout = 2
+number cycle = 3
+number pattern-count = 4
+number pattern-cap = 5
+number two-join = 6
+number final-left = 7
+number product-count = 8
+number system-cap = 9
+number unexplained = 10
+number lent-room = 11
+number limit = 12
+number given-run = 13
+number unwritable = 14
+
+-- "work room is under 57,344 bytes"
+abbrev pub workRoom : ℕ
+workRoom = 57344
+
+-- ---- what the checks on the nets of a case speak of
+
+-- the pair k goes from its higher transition u to its lower one
+unfoldable pub pairAt : Case → ℕ → ℕ → Bool
+pairAt c u k = ltb k (c .pairs .count) && eqb (getD (c .pairs .higher) k 0) u
+
+unfoldable pub lowerOf : Case → ℕ → ℕ → ℕ
+lowerOf c u k = getD (c .pairs .lower) k 0
+
+-- 3: "priority pairs close a cycle, a pair of one transition with itself included": a chain of at least one pair leads from a
+-- transition back to it
+pub record PairCycle (c : Case) : Type 0 where
+  pub top : ℕ
+  pub pair : ℕ
+  pub rest : List ℕ
+  pub chain : T (walks (pairAt c) (lowerOf c) top (pair ∷ rest))
+  pub round : ends (pairAt c) (lowerOf c) top (pair ∷ rest) ≡ top
+
+-- 5: "from one of them an enabled pattern transition passes the cap"
+pub record PatternOver (c : Case) : Type 0 where
+  pub at : List ℕ
+  pub by : ℕ
+  pub reachable : PatternReaches c at
+  pub enabled : T (patternEnabled c at by)
+  pub over : T (not (within 8 (c .pattern .cap) (patternFired c at by)))
+
+-- 6: "in one of them two enabled pattern transitions of one label are found"
+pub record TwoJoin (c : Case) : Type 0 where
+  pub at : List ℕ
+  pub label : ℕ
+  pub one : ℕ
+  pub other : ℕ
+  pub reachable : PatternReaches c at
+  pub two : one < other
+  pub one-joins : T (joins c at label one)
+  pub other-joins : T (joins c at label other)
+
+-- 7: "from a final one an enabled pattern transition leads to one not final"
+pub record FinalLeft (c : Case) : Type 0 where
+  pub at : List ℕ
+  pub by : ℕ
+  pub reachable : PatternReaches c at
+  pub was-final : T (final c at)
+  pub enabled : T (patternEnabled c at by)
+  pub not-final : T (not (final c (patternFired c at by)))
+
+-- 9: "from one of them a firable system transition passes the system's cap"
+pub record SystemOver (c : Case) : Type 0 where
+  pub at : ProductMarking
+  pub by : ℕ
+  pub reachable : ProductReaches c at
+  pub firable-there : T (firable c (at .system) by)
+  pub over : T (not (within 16 (c .net .cap) (step c at by .system)))
+
+-- 13: "the listing's given run is longer than the limit or holds a number that is no transition"; from the start none is given
+abbrev pub GivenBad : Case → ℕ → Asked → Type 0
+GivenBad c n from-start = ⊥
+GivenBad c n (after g) = (n < length g) ⊎ ((t : ℕ) × (List·Memᴰ t g × (c .arcs .count ≤ t)))
+
+-- ---- the table
+
+-- what a call is asked, as far as a check may look at it; what a call has none of is never looked at by its checks
+pub record Question : Type 0 where
+  pub file : List ℕ
+  pub work : ℕ
+  pub limited : ℕ
+  pub asked : Asked
+  pub case : Case
+
+-- the file reads as a case of which P holds
+pub record OfCase (f : List ℕ) (P : Case → Type 0) : Type 0 where
+  pub case : Case
+  pub reads : ReadsAs f case
+  pub is : P case
+
+-- "Given exactly when no earlier check speaks and ..", "Number beside it". Short n: room is shorter than the n bytes that must be written.
+abbrev pub Speaks : Question → (ℕ → Type 0) → Check → ℕ → Type 0
+Speaks q Short work-room n = (q .work < workRoom) × (n ≡ 0)
+Speaks q Short layout n = BreaksAt (q .file) n
+Speaks q Short cycle n = OfCase (q .file) PairCycle × (n ≡ 0)
+Speaks q Short pattern-count n = OfCase (q .file) (λ c. MoreThan 64 (PatternReaches c)) × (n ≡ 0)
+Speaks q Short pattern-cap n = OfCase (q .file) PatternOver × (n ≡ 0)
+Speaks q Short two-join n = OfCase (q .file) TwoJoin × (n ≡ 0)
+Speaks q Short final-left n = OfCase (q .file) FinalLeft × (n ≡ 0)
+Speaks q Short product-count n = OfCase (q .file) (λ c. MoreThan 512 (ProductReaches c)) × (n ≡ 0)
+Speaks q Short system-cap n = OfCase (q .file) SystemOver × (n ≡ 0)
+Speaks q Short unexplained n = OfCase (q .file) NoneExplains × (n ≡ 0)
+Speaks q Short lent-room n = Short n
+Speaks q Short limit n = (24 < q .limited) × (n ≡ 0)
+Speaks q Short given-run n = OfCase (q .file) (λ c. GivenBad c (q .limited) (q .asked)) × (n ≡ 0)
+Speaks q Short unwritable n = (Writable (q .case) → ⊥) × (n ≡ 0)
+
+-- the opposite of each: the check has nothing to say. Enough: room is long enough for what must be written.
+abbrev pub Silent : Question → Type 0 → Check → Type 0
+Silent q Enough work-room = workRoom ≤ q .work
+Silent q Enough layout = OfCase (q .file) (λ c. Unit {0})
+Silent q Enough cycle = OfCase (q .file) (λ c. PairCycle c → ⊥)
+Silent q Enough pattern-count = OfCase (q .file) (λ c. AtMost 64 (PatternReaches c))
+Silent q Enough pattern-cap = OfCase (q .file) (λ c. PatternOver c → ⊥)
+Silent q Enough two-join = OfCase (q .file) (λ c. TwoJoin c → ⊥)
+Silent q Enough final-left = OfCase (q .file) (λ c. FinalLeft c → ⊥)
+Silent q Enough product-count = OfCase (q .file) (λ c. AtMost 512 (ProductReaches c))
+Silent q Enough system-cap = OfCase (q .file) (λ c. SystemOver c → ⊥)
+Silent q Enough unexplained = OfCase (q .file) (λ c. (r : List ℕ) × Explains c r)
+Silent q Enough lent-room = Enough
+Silent q Enough limit = q .limited ≤ 24
+Silent q Enough given-run = OfCase (q .file) (λ c. GivenBad c (q .limited) (q .asked) → ⊥)
+Silent q Enough unwritable = Writable (q .case)
+
+-- ---- the order of the checks
+
+-- of a list of checks, the first that speaks has the number n, with m beside it
+pub data FirstToSpeak (Says : Check → ℕ → Type 0) (Rests : Check → Type 0) : List Check → ℕ → ℕ → Type 0 where
+  speaks : {k : Check} {ks : List Check} {m : ℕ} → Says k m → FirstToSpeak Says Rests (k ∷ ks) (number k) m
+  rests : {k : Check} {ks : List Check} {n m : ℕ} → Rests k → FirstToSpeak Says Rests ks n m → FirstToSpeak Says Rests (k ∷ ks) n m
+
+-- none of them speaks
+pub data AllSilent (Rests : Check → Type 0) : List Check → Type 0 where
+  none : AllSilent Rests []
+  also : {k : Check} {ks : List Check} → Rests k → AllSilent Rests ks → AllSilent Rests (k ∷ ks)
+
+-- "Checks by call. Reader: 2. Verdict: 1 to 11 in order. Listing: 1, 12, 2 to 9, 13, 11. Writer: 14, 11. Replay: 2 to 7."
+abbrev pub readerOrder : List Check
+readerOrder = layout ∷ []
+
+abbrev pub verdictOrder : List Check
+verdictOrder = work-room ∷ layout ∷ cycle ∷ pattern-count ∷ pattern-cap ∷ two-join ∷ final-left ∷ product-count ∷ system-cap ∷ unexplained ∷ lent-room ∷ []
+
+abbrev pub listingOrder : List Check
+listingOrder = work-room ∷ limit ∷ layout ∷ cycle ∷ pattern-count ∷ pattern-cap ∷ two-join ∷ final-left ∷ product-count ∷ system-cap ∷ given-run ∷ lent-room ∷ []
+
+abbrev pub writerOrder : List Check
+writerOrder = unwritable ∷ lent-room ∷ []
+
+abbrev pub replayOrder : List Check
+replayOrder = layout ∷ cycle ∷ pattern-count ∷ pattern-cap ∷ two-join ∷ final-left ∷ []
+
+-- a call that asks q makes the checks ks: the first that speaks is n, with m beside it
+abbrev pub Refuses : Question → (ℕ → Type 0) → Type 0 → List Check → ℕ → ℕ → Type 0
+Refuses q Short Enough ks n m = FirstToSpeak (Speaks q Short) (Silent q Enough) ks n m
+
+-- none speaks
+abbrev pub Accepts : Question → Type 0 → List Check → Type 0
+Accepts q Enough ks = AllSilent (Silent q Enough) ks

@@ -1,0 +1,6 @@
+pub mod Tests
+pub mod Closed
+pub mod Explore
+pub mod Few
+pub mod Order
+pub mod Short

@@ -1,0 +1,4 @@
+pub mod Below
+pub mod Walk
+pub mod Order
+pub mod Few
