@@ -1,1 +1,3 @@
 pub mod OneReading
+pub mod Keep
+pub mod Accepted

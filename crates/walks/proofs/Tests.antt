@@ -37,6 +37,10 @@ pub or-cases : (a b : Bool) → T (a || b) → T a ⊎ T b
 or-cases true b t = inl tt
 or-cases false b t = inr t
 
+pub true-or-not : (a : Bool) → T a ⊎ T (not a)
+true-or-not true = inl tt
+true-or-not false = inr tt
+
 pub given : (a b : Bool) → T (implies a b) → T a → T b
 given true b h t = h
 given false b h t = absurd t
