@@ -1,0 +1,204 @@
+-- ANY TWO OUTCOMES THAT A CALL'S DEFINITION ALLOWS ARE EQUAL: `reader-one`, `log-one`, `writer-one`, `verdict-one`, `listing-one`,
+-- `replay-one`. Assumes nothing.
+use Prim.Native.Nat.{ℕ, _<_, _≤_}
+use mathlib.Core.Path.{_≡_, refl, sym, ap, ap₂, _∙_, subst}
+use mathlib.Core.Bool.{Bool, true, false, true≢false}
+use mathlib.Core.List.{List, []}
+use native.Mathlib.Omega.{arith}
+use lib.ListN.{length}
+use Rattle.rack.specs.Run.{Explains, matches}
+use Rattle.rack.specs.Verdict.{FirstOfKind, IsFaulty, IsSafe, IsAmbiguous, AllOfKind}
+use Rattle.rack.specs.Listing.{Asked, NextIs, EndIs}
+use Rattle.rack.specs.Layout.{zeroCase, ReadsAs, BreaksAt}
+use Rattle.rack.specs.Writing.{bytesOf}
+use Rattle.rack.specs.Refusal.{layout, readerOrder, writerOrder, verdictOrder, listingOrder, replayOrder, Refuses, Accepts, speaks, rests, none, also}
+use Rattle.rack.specs.Outcome.{ofFile, NoneShort, holding, zeroed}
+use Rattle.rack.specs.CaseFileOutcome.{ReaderIs, logStretch, LogIs, ofCase, FileShort, FileEnough, WriterIs}
+use Rattle.rack.specs.CaseFileOutcome as file
+use Rattle.rack.specs.VerdictOutcome.{ofVerdict, Fits, TooLong, RunShort, matching-short, other-short, RunsFit, VerdictIs, faulty, safe, ambiguous}
+use Rattle.rack.specs.VerdictOutcome as judge
+use Rattle.rack.specs.ListingOutcome.{ofListing, NextShort, NextFits, ListingIs}
+use Rattle.rack.specs.ListingOutcome as list
+use Rattle.rack.specs.ReplayOutcome.{replayOf, replayRefused, ReplayIs}
+use Rattle.rack.specs.ReplayOutcome as replay
+use Rattle.rack.specs.declared.Case.{Case}
+use Rattle.rack.specs.declared.Reading.{Reading}
+use Rattle.rack.specs.declared.Outcome.the-variants as Reader
+use Rattle.rack.specs.declared.Written.{Written}
+use Rattle.rack.specs.declared.Written.the-variants as Writer
+use Rattle.rack.specs.declared.Judged.{Judged}
+use Rattle.rack.specs.declared.Verdict.the-variants as Verdict
+use Rattle.rack.specs.declared.Listed.{Listed}
+use Rattle.rack.specs.declared.Listed.the-variants as Listing
+use Rattle.rack.specs.declared.Replayed.{Replayed}
+use Rattle.rack.proofs.OneReading.{one-case, one-place, reads-or-breaks}
+use Rattle.rack.proofs.OneFirst.{first-one, next-one}
+use Rattle.rack.proofs.OneRefusal.{one-refusal, refuses-or-accepts}
+
+-- ---- reader
+
+none-short : (m : ℕ) → NoneShort m → Unit {0} → ⊥
+none-short m x y = x
+
+none-one : (m n : ℕ) → NoneShort m → NoneShort n → m ≡ n
+none-one m n x y = absurd x
+
+pub reader-one : {f : List ℕ} {x y : Reading} → ReaderIs f x → ReaderIs f y → x ≡ y
+reader-one {f} (file.read a) (file.read b) = ap (λ (c : Case). record { outcome = Reader.Whole; case = c }) (one-case a b)
+reader-one {f} (file.read {c} a) (file.refused {n} {m} b) =
+    absurd (refuses-or-accepts (ofFile f) NoneShort (Unit {0}) none-short none-one readerOrder n m b (also (record { case = c; reads = a; is = tt }) none))
+reader-one {f} (file.refused {n} {m} a) (file.read {c} b) =
+    absurd (refuses-or-accepts (ofFile f) NoneShort (Unit {0}) none-short none-one readerOrder n m a (also (record { case = c; reads = b; is = tt }) none))
+reader-one {f} (file.refused {n} {m} a) (file.refused {n = n′} {m = m′} b) =
+    let e = one-refusal (ofFile f) NoneShort (Unit {0}) none-short none-one readerOrder n m n′ m′ a b in
+    ap₂ (λ (n m : ℕ). record { outcome = Reader.Refused n m; case = zeroCase }) (e .0) (e .1)
+
+-- ---- log
+
+pub log-one : {f l k : List ℕ} → LogIs f l → LogIs f k → l ≡ k
+log-one {f} (file.shown a) (file.shown b) = ap (logStretch f) (one-case a b)
+log-one (file.shown a) (file.refused b) = absurd (reads-or-breaks a b)
+log-one (file.refused a) (file.shown b) = absurd (reads-or-breaks b a)
+log-one (file.refused a) (file.refused b) = refl
+
+-- ---- writer
+
+file-short : (c : Case) (room : List ℕ) (m : ℕ) → FileShort c room m → FileEnough c room → ⊥
+file-short c room m x y = omega (arith, x .0, y)
+
+file-one : (c : Case) (room : List ℕ) (m n : ℕ) → FileShort c room m → FileShort c room n → m ≡ n
+file-one c room m n x y = x .1 ∙ sym (y .1)
+
+pub writer-one : {c : Case} {room : List ℕ} {x y : Written} {a b : List ℕ} → WriterIs c room x a → WriterIs c room y b → (x ≡ y) × (a ≡ b)
+writer-one (file.written p) (file.written q) = (refl, refl)
+writer-one {c} {room} (file.written p) (file.refused {n} {m} q) =
+    absurd (refuses-or-accepts (ofCase c) (FileShort c room) (FileEnough c room) (file-short c room) (file-one c room) writerOrder n m q p)
+writer-one {c} {room} (file.refused {n} {m} p) (file.written q) =
+    absurd (refuses-or-accepts (ofCase c) (FileShort c room) (FileEnough c room) (file-short c room) (file-one c room) writerOrder n m p q)
+writer-one {c} {room} (file.refused {n} {m} p) (file.refused {n = n′} {m = m′} q) =
+    let e = one-refusal (ofCase c) (FileShort c room) (FileEnough c room) (file-short c room) (file-one c room) writerOrder n m n′ m′ p q in
+    (ap₂ Writer.Refused (e .0) (e .1), refl)
+
+-- ---- verdict
+
+-- a run that fits is not too long
+fits-or-long : {f room : List ℕ} {k : Bool} {n : ℕ} → Fits f k room → TooLong f k room n → ⊥
+fits-or-long h x = omega (arith, h (x .case) (x .run) (x .reads) (x .first), x .short)
+
+long-one : {f room : List ℕ} {k : Bool} {m n : ℕ} → TooLong f k room m → TooLong f k room n → m ≡ n
+long-one {k = k} x y =
+    let e = first-one (x .first) (subst (λ (c : Case). FirstOfKind c k (y .run)) (one-case (y .reads) (x .reads)) (y .first)) in
+    x .needed ∙ ap length e ∙ sym (y .needed)
+
+module _ (f matching other work : List ℕ) where
+  run-short : (m : ℕ) → RunShort f matching other m → RunsFit f matching other → ⊥
+  run-short m (matching-short x) y = fits-or-long (y .matching-fits) x
+  run-short m (other-short h x) y = fits-or-long (y .other-fits) x
+
+  run-one : (m n : ℕ) → RunShort f matching other m → RunShort f matching other n → m ≡ n
+  run-one m n (matching-short x) (matching-short y) = long-one x y
+  run-one m n (matching-short x) (other-short h y) = absurd (fits-or-long h x)
+  run-one m n (other-short h x) (matching-short y) = absurd (fits-or-long h y)
+  run-one m n (other-short h x) (other-short k y) = long-one x y
+
+  not-both : {n m : ℕ} → Refuses (ofVerdict f work) (RunShort f matching other) (RunsFit f matching other) verdictOrder n m → Accepts (ofVerdict f work) (RunsFit f matching other) verdictOrder → ⊥
+  not-both {n} {m} = refuses-or-accepts (ofVerdict f work) (RunShort f matching other) (RunsFit f matching other) run-short run-one verdictOrder n m
+
+  -- a run of the one kind, where every explanation is of the other
+  clash : {c d : Case} {r : List ℕ} {k j : Bool} → (k ≡ j → ⊥) → ReadsAs f c → ReadsAs f d → FirstOfKind c k r → AllOfKind d j → ⊥
+  clash {c} {d} {r} {k} {j} ne p q x y =
+      let all : AllOfKind c j = subst (λ (e : Case). AllOfKind e j) (one-case q p) y in
+      ne (sym (x .kind) ∙ all r (x .explains))
+
+  same-run : {c d : Case} {r s : List ℕ} {k : Bool} → ReadsAs f c → ReadsAs f d → FirstOfKind c k r → FirstOfKind d k s → r ≡ s
+  same-run {c} {d} {r} {s} {k} p q x y = first-one x (subst (λ (e : Case). FirstOfKind e k s) (one-case q p) y)
+
+  false≢true : false ≡ true → ⊥
+  false≢true e = true≢false (sym e)
+
+  abbrev judged : List ℕ → List ℕ → Judged
+  judged r s = record { verdict = Verdict.Ambiguous; matching = length r; other = length s }
+
+  pub verdict-one : {x y : Judged} {a b w a′ b′ w′ : List ℕ} → VerdictIs f matching other work x a b w → VerdictIs f matching other work y a′ b′ w′
+      → (x ≡ y) × (a ≡ a′) × (b ≡ b′) × (w ≡ w′)
+  verdict-one (faulty g p u) (faulty h q v) =
+      let e = same-run p q (u .shows) (v .shows) in
+      (ap (λ (r : List ℕ). record { verdict = Verdict.Faulty; matching = length r; other = 0 }) e, ap (λ (r : List ℕ). holding r matching) e, refl, refl)
+  verdict-one (faulty g p u) (safe h q v) = absurd (clash true≢false p q (u .shows) (v .all))
+  verdict-one (faulty g p u) (ambiguous h q v) = absurd (clash false≢true q p (v .other) (u .all))
+  verdict-one (faulty g p u) (judge.refused q) = absurd (not-both q g)
+  verdict-one (safe g p u) (faulty h q v) = absurd (clash true≢false q p (v .shows) (u .all))
+  verdict-one (safe g p u) (safe h q v) =
+      let e = same-run p q (u .shows) (v .shows) in
+      (ap (λ (s : List ℕ). record { verdict = Verdict.Safe; matching = 0; other = length s }) e, refl, ap (λ (s : List ℕ). holding s other) e, refl)
+  verdict-one (safe g p u) (ambiguous h q v) = absurd (clash true≢false q p (v .matching) (u .all))
+  verdict-one (safe g p u) (judge.refused q) = absurd (not-both q g)
+  verdict-one (ambiguous g p u) (faulty h q v) = absurd (clash false≢true p q (u .other) (v .all))
+  verdict-one (ambiguous g p u) (safe h q v) = absurd (clash true≢false p q (u .matching) (v .all))
+  verdict-one (ambiguous g p u) (ambiguous h q v) =
+      let d = same-run p q (u .matching) (v .matching) in
+      let e = same-run p q (u .other) (v .other) in
+      (ap₂ judged d e, ap (λ (r : List ℕ). holding r matching) d, ap (λ (s : List ℕ). holding s other) e, refl)
+  verdict-one (ambiguous g p u) (judge.refused q) = absurd (not-both q g)
+  verdict-one (judge.refused p) (faulty h q v) = absurd (not-both p h)
+  verdict-one (judge.refused p) (safe h q v) = absurd (not-both p h)
+  verdict-one (judge.refused p) (ambiguous h q v) = absurd (not-both p h)
+  verdict-one (judge.refused {n} {m} p) (judge.refused {n = n′} {m = m′} q) =
+      let e = one-refusal (ofVerdict f work) (RunShort f matching other) (RunsFit f matching other) run-short run-one verdictOrder n m n′ m′ p q in
+      (ap₂ (λ (n m : ℕ). record { verdict = Verdict.Refused n m; matching = 0; other = 0 }) (e .0) (e .1), refl, refl, refl)
+
+-- ---- listing
+
+module _ (f : List ℕ) (limit : ℕ) (asked : Asked) (room work : List ℕ) where
+  same-next : {c d : Case} {r s : List ℕ} → ReadsAs f c → ReadsAs f d → NextIs c limit asked r → NextIs d limit asked s → (c ≡ d) × (r ≡ s)
+  same-next {c} {d} {r} {s} p q x y = (one-case p q, next-one x (subst (λ (e : Case). NextIs e limit asked s) (one-case q p) y))
+
+  next-short : (m : ℕ) → NextShort f limit asked room m → NextFits f limit asked room → ⊥
+  next-short m x h = omega (arith, h (x .case) (x .run) (x .reads) (x .next), x .short)
+
+  short-one : (m n : ℕ) → NextShort f limit asked room m → NextShort f limit asked room n → m ≡ n
+  short-one m n x y = x .needed ∙ ap length (same-next (x .reads) (y .reads) (x .next) (y .next) .1) ∙ sym (y .needed)
+
+  not-listed : {n m : ℕ} → Refuses (ofListing f limit asked work) (NextShort f limit asked room) (NextFits f limit asked room) listingOrder n m → Accepts (ofListing f limit asked work) (NextFits f limit asked room) listingOrder → ⊥
+  not-listed {n} {m} = refuses-or-accepts (ofListing f limit asked work) (NextShort f limit asked room) (NextFits f limit asked room) next-short short-one listingOrder n m
+
+  -- the run given is marked in one way, and there is none at the end
+  marked-one : {c d : Case} {r s : List ℕ} → ReadsAs f c → ReadsAs f d → NextIs c limit asked r → NextIs d limit asked s → matches c r ≡ true → matches d s ≡ false → ⊥
+  marked-one {c} {d} {r} {s} p q x y u v = let e = same-next p q x y in true≢false (sym u ∙ ap₂ matches (e .0) (e .1) ∙ v)
+
+  not-at-end : {c d : Case} {r : List ℕ} → ReadsAs f c → ReadsAs f d → NextIs c limit asked r → EndIs d limit asked → ⊥
+  not-at-end {c} {d} {r} p q x y = subst (λ (e : Case). EndIs e limit asked) (one-case q p) y r (x .explains) (x .within) (x .later-than)
+
+  pub listing-one : {x y : Listed} {a w a′ w′ : List ℕ} → ListingIs f limit asked room work x a w → ListingIs f limit asked room work y a′ w′ → (x ≡ y) × (a ≡ a′) × (w ≡ w′)
+  listing-one (list.matching g p u s) (list.matching h q v t) =
+      let e = same-next p q u v .1 in
+      (ap (λ (r : List ℕ). Listing.Matching (length r)) e, ap (λ (r : List ℕ). holding r room) e, refl)
+  listing-one (list.matching g p u s) (list.other h q v t) = absurd (marked-one p q u v s t)
+  listing-one (list.matching g p u s) (list.end h q v) = absurd (not-at-end p q u v)
+  listing-one (list.matching g p u s) (list.refused q) = absurd (not-listed q g)
+  listing-one (list.other g p u s) (list.matching h q v t) = absurd (marked-one q p v u t s)
+  listing-one (list.other g p u s) (list.other h q v t) =
+      let e = same-next p q u v .1 in
+      (ap (λ (r : List ℕ). Listing.Other (length r)) e, ap (λ (r : List ℕ). holding r room) e, refl)
+  listing-one (list.other g p u s) (list.end h q v) = absurd (not-at-end p q u v)
+  listing-one (list.other g p u s) (list.refused q) = absurd (not-listed q g)
+  listing-one (list.end g p u) (list.matching h q v t) = absurd (not-at-end q p v u)
+  listing-one (list.end g p u) (list.other h q v t) = absurd (not-at-end q p v u)
+  listing-one (list.end g p u) (list.end h q v) = (refl, refl, refl)
+  listing-one (list.end g p u) (list.refused q) = absurd (not-listed q g)
+  listing-one (list.refused p) (list.matching h q v t) = absurd (not-listed p h)
+  listing-one (list.refused p) (list.other h q v t) = absurd (not-listed p h)
+  listing-one (list.refused p) (list.end h q v) = absurd (not-listed p h)
+  listing-one (list.refused {n} {m} p) (list.refused {n = n′} {m = m′} q) =
+      let e = one-refusal (ofListing f limit asked work) (NextShort f limit asked room) (NextFits f limit asked room) next-short short-one listingOrder n m n′ m′ p q in
+      (ap₂ Listing.Refused (e .0) (e .1), refl, refl)
+
+-- ---- replay
+
+pub replay-one : {f run : List ℕ} {budget : ℕ} {x y : Replayed} → ReplayIs f run budget x → ReplayIs f run budget y → x ≡ y
+replay-one {f} {run} {budget} (replay.replayed g p) (replay.replayed h q) = ap (λ (c : Case). replayOf c run budget) (one-case p q)
+replay-one {f} (replay.replayed g p) (replay.refused {n} {m} q) = absurd (refuses-or-accepts (ofFile f) NoneShort (Unit {0}) none-short none-one replayOrder n m q g)
+replay-one {f} (replay.refused {n} {m} p) (replay.replayed h q) = absurd (refuses-or-accepts (ofFile f) NoneShort (Unit {0}) none-short none-one replayOrder n m p h)
+replay-one {f} (replay.refused {n} {m} p) (replay.refused {n = n′} {m = m′} q) =
+    let e = one-refusal (ofFile f) NoneShort (Unit {0}) none-short none-one replayOrder n m n′ m′ p q in
+    ap₂ replayRefused (e .0) (e .1)
