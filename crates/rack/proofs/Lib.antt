@@ -5,3 +5,12 @@ pub mod OneRefusal
 pub mod OneFirst
 pub mod OneOutcome
 pub mod Bound
+pub mod Accept
+pub mod Decide
+pub mod Parse
+pub mod WellFormedLists
+pub mod WellFormedKinds
+pub mod WellFormed
+pub mod Answer
+pub mod SameCase
+pub mod HubTable

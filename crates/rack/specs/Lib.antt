@@ -12,8 +12,12 @@ pub mod Records
 pub mod Layout
 pub mod Writing
 pub mod Refusal
+pub mod NetChecks
 pub mod Outcome
 pub mod CaseFileOutcome
 pub mod VerdictOutcome
 pub mod ListingOutcome
 pub mod ReplayOutcome
+pub mod Hub
+pub mod WellFormed
+pub mod Slips

@@ -97,6 +97,16 @@ pub record SystemOver (c : Case) : Type 0 where
   pub firable-there : T (firable c (at .system) by)
   pub over : T (not (within 16 (c .net .cap) (step c at by .system)))
 
+-- none of the checks 3 to 9 speaks of a case
+pub record NetsPass (c : Case) : Type 0 where
+  pub no-cycle : PairCycle c → ⊥
+  pub pattern-few : AtMost 64 (PatternReaches c)
+  pub pattern-capped : PatternOver c → ⊥
+  pub one-joins : TwoJoin c → ⊥
+  pub final-stays : FinalLeft c → ⊥
+  pub product-few : AtMost 512 (ProductReaches c)
+  pub system-capped : SystemOver c → ⊥
+
 -- 13: "the listing's given run is longer than the limit or holds a number that is no transition"; from the start none is given
 abbrev pub GivenBad : Case → ℕ → Asked → Type 0
 GivenBad c n from-start = ⊥

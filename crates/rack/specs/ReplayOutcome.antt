@@ -19,8 +19,8 @@ replayOf c run budget =
     let m = reached c run budget in
     record {
       fired = count c run budget;
-      system = record { tokens = m .system };
-      pattern = record { tokens = m .pattern };
+      system = m .system;
+      pattern = m .pattern;
       matches = final c (m .pattern);
       stop = reason c run budget;
       explains = saysExplains c run budget;
@@ -31,8 +31,8 @@ unfoldable pub replayRefused : ℕ → ℕ → Replayed
 replayRefused n m =
     record {
       fired = 0;
-      system = record { tokens = replicate 16 0 };
-      pattern = record { tokens = replicate 8 0 };
+      system = replicate 16 0;
+      pattern = replicate 8 0;
       matches = false;
       stop = Replay.Refused n m;
       explains = false;

@@ -74,15 +74,6 @@ pub struct SystemTransition(pub usize);
 
 pub struct PatternTransition(pub usize);
 
-// A marking of the system and one of the pattern: how many tokens each place holds.
-pub struct Marking {
-    pub tokens: [u8; 16],
-}
-
-pub struct PatternMarking {
-    pub tokens: [u8; 8],
-}
-
 // The kind of a record, by its mark. Absent: no mark stands there.
 pub enum Mark {
     Nt,
@@ -146,12 +137,12 @@ pub enum Stop {
     Refused(u8, usize),
 }
 
-// Replay: how many firings were made, the product marking after them, whether it is final (what was fired matches), why it
+// Replay: how many firings were made, the tokens of the system's and of the pattern's places after them, whether that is final (what was fired matches), why it
 // stopped, and whether the run explains the log.
 pub struct Replayed {
     pub fired: usize,
-    pub system: Marking,
-    pub pattern: PatternMarking,
+    pub system: [u8; 16],
+    pub pattern: [u8; 8],
     pub matches: bool,
     pub stop: Stop,
     pub explains: bool,
