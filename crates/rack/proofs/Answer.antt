@@ -15,7 +15,7 @@ use Rattle.rack.specs.Run.{fires, runs, matches, Explains}
 use Rattle.rack.specs.Verdict.{FirstOfKind, AllOfKind, NoneExplains, IsFaulty, IsSafe, IsAmbiguous}
 use Rattle.rack.specs.Listing.{Asked, from-start, after, NextIs, EndIs}
 use Rattle.rack.specs.Layout.{ReadsAs}
-use Rattle.rack.specs.Refusal.{workRoom, NetsPass, GivenBad, Question, OfCase, Check, layout, cycle, pattern-count, pattern-cap, two-join, final-left, product-count, system-cap, unexplained, lent-room, given-run, Speaks, Silent, FirstToSpeak, speaks, rests, AllSilent, none, also, Refuses, Accepts, verdictOrder, listingOrder}
+use Rattle.rack.specs.Refusal.{workRoom, NetsPass, GivenBad, unexplained, lent-room, given-run, speaks, rests, none, also, Accepts, verdictOrder, listingOrder}
 use Rattle.rack.specs.Outcome.{holding, zeroed}
 use Rattle.rack.specs.VerdictOutcome.{ofVerdict, Fits, RunShort, RunsFit, VerdictIs, faulty, safe, ambiguous}
 use Rattle.rack.specs.VerdictOutcome as judge
@@ -28,37 +28,7 @@ use Rattle.rack.specs.declared.Verdict.the-variants as Verdict
 use Rattle.rack.proofs.OneReading.{one-case}
 use Rattle.rack.proofs.OneFirst.{first-one, next-one}
 use Rattle.rack.proofs.Accept.{firable-known}
-
--- the checks 2 to 9, and what comes after them
-module _ {f : List ℕ} {c : Case} (reads : ReadsAs f c) (ok : NetsPass c) (q : Question) (same : q .file ≡ f) (Short : ℕ → Type 0) (Enough : Type 0) where
-  of : (P : Case → Type 0) → P c → OfCase (q .file) P
-  of P p = record { case = c; reads = subst (λ (g : List ℕ). ReadsAs g c) (sym same) reads; is = p }
-
-  -- the checks on the file and its nets rest
-  abbrev nets : List Check → List Check
-  nets ks = layout ∷ cycle ∷ pattern-count ∷ pattern-cap ∷ two-join ∷ final-left ∷ product-count ∷ system-cap ∷ ks
-
-  pub nets-silent : (ks : List Check) → AllSilent (Silent q Enough) ks → AllSilent (Silent q Enough) (nets ks)
-  nets-silent ks a =
-      also (of (λ c. Unit {0}) tt)
-      (also (of _ (ok .no-cycle))
-      (also (of _ (ok .pattern-few))
-      (also (of _ (ok .pattern-capped))
-      (also (of _ (ok .one-joins))
-      (also (of _ (ok .final-stays))
-      (also (of _ (ok .product-few))
-      (also (of _ (ok .system-capped)) a)))))))
-
-  pub nets-rest : (ks : List Check) (n m : ℕ) → FirstToSpeak (Speaks q Short) (Silent q Enough) ks n m → FirstToSpeak (Speaks q Short) (Silent q Enough) (nets ks) n m
-  nets-rest ks n m a =
-      rests (of (λ c. Unit {0}) tt)
-      (rests (of _ (ok .no-cycle))
-      (rests (of _ (ok .pattern-few))
-      (rests (of _ (ok .pattern-capped))
-      (rests (of _ (ok .one-joins))
-      (rests (of _ (ok .final-stays))
-      (rests (of _ (ok .product-few))
-      (rests (of _ (ok .system-capped)) a)))))))
+use Rattle.rack.proofs.Lift.{layout-rests, lift-on, lift-accepts, passes-accept}
 
 -- ---- the verdict
 
@@ -72,9 +42,11 @@ module _ {f : List ℕ} {c : Case} (reads : ReadsAs f c) (ok : NetsPass c) (matc
 
   accepts : (r : List ℕ) → Explains c r → RunsFit f matching other → Accepts (ofVerdict f work) (RunsFit f matching other) verdictOrder
   accepts r x h =
+      let q = ofVerdict f work in
       also room
-      (nets-silent reads ok (ofVerdict f work) refl (RunShort f matching other) (RunsFit f matching other) (unexplained ∷ lent-room ∷ [])
-      (also (record { case = c; reads = reads; is = (r, x) }) (also h none)))
+      (also (layout-rests q (RunShort f matching other) (RunsFit f matching other) c reads)
+      (lift-accepts q (RunShort f matching other) (RunsFit f matching other) c reads {more = unexplained ∷ lent-room ∷ []} (passes-accept ok)
+      (also (record { case = c; reads = reads; is = (r, x) }) (also h none))))
 
   true≠false : true ≡ false → ⊥
   true≠false e = let z : _≡_ {A = ℕ} 0 1 = ap (λ (b : Bool). pick b 0 1) e in omega arith
@@ -102,10 +74,12 @@ module _ {f : List ℕ} {c : Case} (reads : ReadsAs f c) (ok : NetsPass c) (matc
 
   pub answer-unexplained : NoneExplains c → VerdictIs f matching other work (record { verdict = Verdict.Refused 10 0; matching = 0; other = 0 }) matching other (zeroed work)
   answer-unexplained x =
+      let q = ofVerdict f work in
       judge.refused
       (rests room
-      (nets-rest reads ok (ofVerdict f work) refl (RunShort f matching other) (RunsFit f matching other) (unexplained ∷ lent-room ∷ []) 10 0
-      (speaks (record { case = c; reads = reads; is = x }, refl))))
+      (rests (layout-rests q (RunShort f matching other) (RunsFit f matching other) c reads)
+      (lift-on q (RunShort f matching other) (RunsFit f matching other) c reads {more = unexplained ∷ lent-room ∷ []} (passes-accept ok)
+      (speaks (record { case = c; reads = reads; is = x }, refl)))))
 
 -- ---- the listing
 
@@ -124,10 +98,12 @@ given-good c n r x h = ⊎-elim (λ k. omega arith) (λ k. let z = run-known c r
 module _ {f : List ℕ} {c : Case} (reads : ReadsAs f c) (ok : NetsPass c) (n : ℕ) (low : n ≤ 24) (asked : Asked) (good : GivenBad c n asked → ⊥) (room work : List ℕ) (enough : workRoom ≤ length work) where
   listing-accepts : NextFits f n asked room → Accepts (ofListing f n asked work) (NextFits f n asked room) listingOrder
   listing-accepts h =
+      let q = ofListing f n asked work in
       also enough
       (also low
-      (nets-silent reads ok (ofListing f n asked work) refl (NextShort f n asked room) (NextFits f n asked room) (given-run ∷ lent-room ∷ [])
-      (also (record { case = c; reads = reads; is = good }) (also h none))))
+      (also (layout-rests q (NextShort f n asked room) (NextFits f n asked room) c reads)
+      (lift-accepts q (NextShort f n asked room) (NextFits f n asked room) c reads {more = given-run ∷ lent-room ∷ []} (passes-accept ok)
+      (also (record { case = c; reads = reads; is = good }) (also h none)))))
 
   pub answer-next : {r : List ℕ} (b : Bool) → NextIs c n asked r → matches c r ≡ b → n ≤ length room
       → ListingIs f n asked room work (pick b (Listing.Matching (length r)) (Listing.Other (length r))) (holding r room) (zeroed work)

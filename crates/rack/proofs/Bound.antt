@@ -8,7 +8,7 @@ use mathlib.Core.Logic.{⊎-elim}
 use native.Mathlib.Nat.{suc-mul, zero-mul, mul-le-mul}
 use native.Mathlib.Numerals.{add-one}
 use native.Mathlib.Omega.{arith}
-use lib.ListN.{length, getD, length-append}
+use lib.ListN.{length, getD, length-append, length-take}
 use lib.Dec.{T, ltb, eqb, ltb→lt}
 use borrow.Author.Tests.{eqb-true, eqb-false}
 use Rattle.walks.specs.Below.{pick}
@@ -25,10 +25,15 @@ use Rattle.rack.specs.Reach.{patternGoes, PatternReaches, productGoes, P
 use Rattle.rack.specs.Run.{fires, end, matches, visible, logOf, Explains}
 use Rattle.rack.specs.Keep.{maySilently, due, keeps, next, Node, moves, onto, origin}
 use Rattle.rack.specs.Verdict.{FirstOfKind}
-use Rattle.rack.specs.Refusal.{PatternOver, SystemOver}
+use Rattle.rack.specs.Layout.{ReadsAs}
+use Rattle.rack.specs.Refusal.{PatternOver, SystemOver, NetsPass}
+use Rattle.rack.specs.VerdictOutcome.{VerdictIs, faulty, safe, ambiguous, refused}
+use Rattle.rack.specs.declared.Judged.{Judged}
 use Rattle.rack.specs.declared.Case.{Case}
 use Rattle.rack.proofs.Keep.{Kept, explains-kept, kept-explains}
 use Rattle.rack.proofs.Accepted.{one-further}
+use Rattle.rack.proofs.Lift.{verdict-passes}
+use Rattle.rack.proofs.WellFormed.{well-formed}
 
 -- the nodes at one position, and those at the positions below n, with the markings of a list
 at-position : ℕ → List ProductMarking → List Node
@@ -125,3 +130,17 @@ module _ (c : Case) (kept : PatternOver c → ⊥) (small : T (within 8 (c .patt
       let b = shown-run-bound k r x (few .all) (few .holds) in
       let m : suc (length (logOf c)) * length (few .all) ≤ 41 * 512 = mul-le-mul {n₂ = 41} {m₂ = 512} (omega arith) (few .few) in
       omega (arith, b, m)
+
+-- and so of every verdict: no run that it shows is longer
+shown-most : {f : List ℕ} {c : Case} {k : Bool} {r : List ℕ} → ReadsAs f c → NetsPass c → FirstOfKind c k r → length r ≤ 20991
+unfolding logOf
+shown-most {f} {c} {k} {r} reads ok x =
+    let w = well-formed reads in
+    let short : length (logOf c) ≤ 40 = omega (arith, length-take (c .log .count) (c .log .labels), w .log .names .few) in
+    shown-run-most c (ok .pattern-capped) (w .pattern .tokens-within) (ok .system-capped) k r x (ok .product-few) short
+
+pub verdict-short : {f matching other work : List ℕ} {x : Judged} {a b w : List ℕ} → VerdictIs f matching other work x a b w → (x .matching ≤ 20991) × (x .other ≤ 20991)
+verdict-short (faulty g p u) = (shown-most p (verdict-passes p g) (u .shows), omega arith)
+verdict-short (safe g p u) = (omega arith, shown-most p (verdict-passes p g) (u .shows))
+verdict-short (ambiguous g p u) = (shown-most p (verdict-passes p g) (u .matching), shown-most p (verdict-passes p g) (u .other))
+verdict-short (refused g) = (omega arith, omega arith)

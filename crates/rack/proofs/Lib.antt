@@ -6,6 +6,7 @@ pub mod OneFirst
 pub mod OneOutcome
 pub mod Bound
 pub mod Accept
+pub mod Lift
 pub mod Decide
 pub mod Parse
 pub mod WellFormedLists
@@ -14,3 +15,5 @@ pub mod WellFormed
 pub mod Answer
 pub mod SameCase
 pub mod HubTable
+pub mod Replaying
+pub mod ListingEnds

@@ -10,7 +10,7 @@ use native.Mathlib.Nat.{not-suc-le-zero}
 use native.Mathlib.Omega.{arith}
 use lib.ListN.{getD}
 use lib.Dec.{T, eqb, eqb→eq}
-use borrow.Author.Tests.{eqb-true, eqb-false}
+use borrow.Author.Tests.{eq-eqb, eqb-true, eqb-false}
 use Rattle.walks.specs.Below.{pick, implies, allBelow, anyBelow, same}
 
 pub and-left : (a b : Bool) → T (a && b) → T a
@@ -62,12 +62,23 @@ below-at (suc n) f t k h = go (below-at n f (and-right (f n) (allBelow n f) t) k
     go rec true e = subst (λ (j : ℕ). T (f j)) (sym (eqb-true k n e)) (and-left (f n) (allBelow n f) t)
     go rec false e = let ne : k ≡ n → ⊥ = eqb-false k n e in rec (omega (arith, ne))
 
+eqb-self : (x : ℕ) → eqb x x ≡ true
+eqb-self x = eq-eqb x x refl
+
 pub same→eq : (a b : List ℕ) → T (same a b) → a ≡ b
 unfolding same
 same→eq [] [] t = refl
 same→eq [] (y ∷ b) t = absurd t
 same→eq (x ∷ a) [] t = absurd t
 same→eq (x ∷ a) (y ∷ b) t = ap₂ _∷_ (eqb→eq x y (and-left (eqb x y) (same a b) t)) (same→eq a b (and-right (eqb x y) (same a b) t))
+
+same-self : (a : List ℕ) → T (same a a)
+unfolding same
+same-self [] = tt
+same-self (x ∷ a) = and-both (eqb x x) (same a a) (of-true _ (eqb-self x)) (same-self a)
+
+pub eq→same : (a b : List ℕ) → a ≡ b → T (same a b)
+eq→same a b e = subst (λ (l : List ℕ). T (same a l)) e (same-self a)
 
 pub beq→eq : (a b : Bool) → T (Bool·beq a b) → a ≡ b
 beq→eq true true t = refl
