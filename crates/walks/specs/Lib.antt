@@ -2,3 +2,4 @@ pub mod Below
 pub mod Walk
 pub mod Order
 pub mod Few
+pub mod Grow
