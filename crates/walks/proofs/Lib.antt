@@ -5,3 +5,5 @@ pub mod Few
 pub mod Grow
 pub mod Order
 pub mod Short
+pub mod Queue
+pub mod FirstWalk

@@ -3,3 +3,4 @@ pub mod Walk
 pub mod Order
 pub mod Few
 pub mod Grow
+pub mod Queue
