@@ -17,3 +17,4 @@ pub mod SameCase
 pub mod HubTable
 pub mod Replaying
 pub mod ListingEnds
+pub mod Nodes

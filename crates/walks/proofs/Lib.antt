@@ -7,3 +7,5 @@ pub mod Order
 pub mod Short
 pub mod Queue
 pub mod FirstWalk
+pub mod Later
+pub mod NextWalk

@@ -4,3 +4,4 @@ pub mod Order
 pub mod Few
 pub mod Grow
 pub mod Queue
+pub mod Later
