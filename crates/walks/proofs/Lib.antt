@@ -6,6 +6,8 @@ pub mod Grow
 pub mod Order
 pub mod Short
 pub mod Queue
+pub mod Search
+pub mod Back
 pub mod FirstWalk
 pub mod Later
 pub mod NextWalk

@@ -4,4 +4,6 @@ pub mod Order
 pub mod Few
 pub mod Grow
 pub mod Queue
+pub mod Search
+pub mod Back
 pub mod Later
