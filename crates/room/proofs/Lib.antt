@@ -1,0 +1,8 @@
+-- Laws on plain values that the proofs of this crate and of others cite.
+pub mod Splits
+pub mod RowLaws
+pub mod OrderLaws
+pub mod SortLaws
+pub mod SameRows
+pub mod ByteLaws
+pub mod NodeLaws

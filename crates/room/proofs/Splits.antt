@@ -1,0 +1,32 @@
+-- Cases on two numbers, and what a yes or no tells.
+-- Assumes nothing.
+use Prim.Native.Nat.{ℕ, _≤_, _<_}
+use mathlib.Core.Path.{_≡_, refl, sym, _∙_}
+use mathlib.Core.Bool.{Bool, true, false, false≢true}
+use mathlib.Core.Logic.{_⊎_, inl, inr}
+use native.Mathlib.Omega.{arith}
+use native.Mathlib.Decide.{decLt, ℕ-discrete}
+use Rattle.room.specs.Says.{Says}
+
+pub less-or-not : (k a : ℕ) → (k < a) ⊎ (a ≤ k)
+less-or-not k a = go (decLt k a)
+  where
+    go : Dec (k < a) → (k < a) ⊎ (a ≤ k)
+    go (yes l) = inl l
+    go (no n) = inr (omega arith)
+
+pub same-or-not : (a b : ℕ) → (a ≡ b) ⊎ (a ≡ b → ⊥)
+same-or-not a b = go (ℕ-discrete a b)
+  where
+    go : Dec (a ≡ b) → (a ≡ b) ⊎ (a ≡ b → ⊥)
+    go (yes e) = inl e
+    go (no n) = inr n
+
+pub says-yes : {P : Type 0} → P → Says true P
+says-yes p = record { sound = λ _. p; complete = λ _. refl }
+
+pub says-no : {P : Type 0} → (P → ⊥) → Says false P
+says-no n = record { sound = λ e. absurd (false≢true e); complete = λ p. absurd (n p) }
+
+pub says-not : {r : Bool} {P : Type 0} → Says r P → r ≡ false → P → ⊥
+says-not s e p = false≢true (sym e ∙ s .complete p)

@@ -1,0 +1,5 @@
+pub mod Says
+pub mod Rows
+pub mod Order
+pub mod Bits
+pub mod Nodes
