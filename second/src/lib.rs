@@ -5,9 +5,12 @@
 
 pub mod case;
 pub mod checks;
+pub mod corpus;
 pub mod judge;
+pub mod known;
 pub mod make;
 pub mod net;
+pub mod random;
 pub mod replay;
 
 /// A refusal: its number in 01's table and the number beside it.

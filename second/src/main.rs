@@ -8,16 +8,15 @@ use std::process::ExitCode;
 
 use second::case::{self, KEPT_BYTES, LONGEST_FILE};
 use second::checks;
-use second::judge::{self, Explanation, Kind, Listing, Rooms, LEAST_WORK_ROOM, MOST_LIMIT};
+use second::corpus::{self, Corpus};
+use second::judge::{self, Listing, Rooms, LEAST_WORK_ROOM, MOST_LIMIT, RUN_ROOM};
 use second::make;
-use second::replay::{self, Replay, Stop};
-use second::{Refusal, Slips};
+use second::replay;
+use second::Slips;
 
 const USAGE: &str = "usage: second verdict | list LIMIT | next LIMIT [after N ...] \
-                     | replay BUDGET N ... | rewrite | checks | make SEED COUNT DIR";
-
-/// What 01 gives the program `verdict` for each run.
-const RUN_ROOM: usize = 2_048;
+                     | replay BUDGET N ... | rewrite | checks | make SEED COUNT DIR \
+                     | corpus files|checks|verdicts|listings|replays DIR";
 
 enum Command {
     Verdict,
@@ -37,6 +36,10 @@ enum Command {
     Make {
         seed: u64,
         count: u64,
+        folder: PathBuf,
+    },
+    Corpus {
+        kind: corpus::Kind,
         folder: PathBuf,
     },
 }
@@ -85,6 +88,10 @@ fn parse(arguments: &[OsString]) -> Option<Command> {
             count: number(count)?,
             folder: PathBuf::from(folder),
         }),
+        ("corpus", [kind, folder]) => Some(Command::Corpus {
+            kind: corpus::Kind::named(kind.to_str()?)?,
+            folder: PathBuf::from(folder),
+        }),
         _ => None,
     }
 }
@@ -109,13 +116,28 @@ fn perform(command: &Command) -> io::Result<()> {
     let mut out = BufWriter::new(io::stdout().lock());
     let slips = Slips::default();
     match command {
-        Command::Verdict => print_verdict(&mut out, &read_input()?)?,
+        Command::Verdict => {
+            let rooms = Rooms {
+                work: LEAST_WORK_ROOM,
+                matching: RUN_ROOM,
+                other: RUN_ROOM,
+            };
+            match judge::verdict(&read_input()?, rooms, &slips) {
+                Err(refusal) => writeln!(out, "{refusal}")?,
+                Ok(verdict) => {
+                    writeln!(out, "{}", verdict.kind)?;
+                    for one in verdict.shown() {
+                        writeln!(out, "{one}")?;
+                    }
+                }
+            }
+        }
         Command::List { limit } => {
             match Listing::open(&read_input()?, LEAST_WORK_ROOM, *limit, &slips) {
                 Err(refusal) => writeln!(out, "{refusal}")?,
                 Ok(listing) => {
                     for one in listing.all() {
-                        print_explanation(&mut out, &one)?;
+                        writeln!(out, "{one}")?;
                     }
                     writeln!(out, "end")?;
                 }
@@ -126,13 +148,17 @@ fn perform(command: &Command) -> io::Result<()> {
             match listing.and_then(|open| open.next(after.as_deref(), MOST_LIMIT as usize)) {
                 Err(refusal) => writeln!(out, "{refusal}")?,
                 Ok(None) => writeln!(out, "end")?,
-                Ok(Some(one)) => print_explanation(&mut out, &one)?,
+                Ok(Some(one)) => writeln!(out, "{one}")?,
             }
         }
         Command::Replay { budget, run } => {
             match replay::replay(&read_input()?, run, *budget, &slips) {
                 Err(refusal) => writeln!(out, "{refusal}")?,
-                Ok(done) => print_replay(&mut out, &done)?,
+                Ok(done) => {
+                    let [fired, system, pattern, is_final, stop, explains] = done.words();
+                    writeln!(out, "{fired}\nmarking {system} | {pattern}")?;
+                    writeln!(out, "{is_final}\n{stop}\n{explains}")?;
+                }
             }
         }
         Command::Rewrite => {
@@ -159,6 +185,12 @@ fn perform(command: &Command) -> io::Result<()> {
                 )?;
             }
         }
+        Command::Corpus { kind, folder } => {
+            std::fs::create_dir_all(folder)?;
+            let made = Corpus::of(*kind);
+            std::fs::write(folder.join("corpus"), made.entries)?;
+            std::fs::write(folder.join("expected"), made.expected)?;
+        }
     }
     out.flush()
 }
@@ -174,65 +206,4 @@ fn read_input() -> io::Result<Vec<u8>> {
         .read_to_end(&mut kept)?;
     io::copy(&mut input, &mut io::sink())?;
     Ok(kept)
-}
-
-fn print_verdict(out: &mut impl Write, file: &[u8]) -> io::Result<()> {
-    let rooms = Rooms {
-        work: LEAST_WORK_ROOM,
-        matching: RUN_ROOM,
-        other: RUN_ROOM,
-    };
-    let answer: Result<judge::Verdict, Refusal> = judge::verdict(file, rooms, &Slips::default());
-    match answer {
-        Err(refusal) => writeln!(out, "{refusal}"),
-        Ok(verdict) => {
-            let word = match verdict.kind {
-                Kind::Faulty => "faulty",
-                Kind::Safe => "safe",
-                Kind::Ambiguous => "ambiguous",
-            };
-            writeln!(out, "{word}")?;
-            for (run, matching) in [(verdict.matching, true), (verdict.other, false)] {
-                if let Some(run) = run {
-                    print_explanation(out, &Explanation { run, matching })?;
-                }
-            }
-            Ok(())
-        }
-    }
-}
-
-fn print_explanation(out: &mut impl Write, one: &Explanation) -> io::Result<()> {
-    write!(
-        out,
-        "{} {}",
-        if one.matching { 'F' } else { 'C' },
-        one.run.len()
-    )?;
-    for number in &one.run {
-        write!(out, " {number}")?;
-    }
-    writeln!(out)
-}
-
-fn print_replay(out: &mut impl Write, done: &Replay) -> io::Result<()> {
-    writeln!(out, "fired {}", done.fired)?;
-    write!(out, "marking")?;
-    for tokens in &done.marking.system {
-        write!(out, " {tokens}")?;
-    }
-    write!(out, " |")?;
-    for tokens in &done.marking.pattern {
-        write!(out, " {tokens}")?;
-    }
-    writeln!(out)?;
-    writeln!(out, "{}", if done.is_final { "final" } else { "not final" })?;
-    let reason = match done.stop {
-        Stop::RunEnded => "run ended",
-        Stop::BudgetSpent => "budget spent",
-        Stop::NotFirable => "not firable",
-        Stop::CapPassed => "cap passed",
-    };
-    writeln!(out, "{reason}")?;
-    writeln!(out, "{}", if done.explains { "explains" } else { "no" })
 }

@@ -5,8 +5,13 @@
 use std::collections::BTreeSet;
 
 use crate::case::{self, Bounds, Case, Net, Pair, Transition};
-use crate::judge::{Listing, LEAST_WORK_ROOM};
+use crate::judge::{Listing, Run, LEAST_WORK_ROOM};
+use crate::known::{
+    add_gate, chain_final, chain_pattern, counter_case, hub, longest, moves, moving_over,
+    priority_counter_case,
+};
 use crate::net;
+use crate::random::Random;
 use crate::Slips;
 
 /// No made case has more explanations than this up to the limit below, so that
@@ -16,8 +21,17 @@ pub const LISTED_LIMIT: u64 = 6;
 
 /// The made file of this number.
 pub fn file(seed: u64, index: u64) -> Vec<u8> {
+    of_families(&FAMILIES, seed, index)
+}
+
+/// The damaged file of this number.
+pub fn damaged_file(seed: u64, index: u64) -> Vec<u8> {
+    of_families(&[damaged_bytes, damaged_records], seed, index)
+}
+
+fn of_families(families: &[Family], seed: u64, index: u64) -> Vec<u8> {
     let mut random = Random::new(seed, index);
-    let family = FAMILIES[(index % FAMILIES.len() as u64) as usize];
+    let family = families[(index % families.len() as u64) as usize];
     // A family that keeps giving too long listings falls back on the hub case.
     let tries = (0..50).map(|_| family(&mut random));
     let modest = tries.into_iter().find(|file| is_modest(file));
@@ -53,170 +67,6 @@ const FAMILIES: [Family; 20] = [
     damaged_bytes,
     damaged_records,
 ];
-
-/// The hub case of 01 with this log.
-pub fn hub(log: &[u8]) -> Case {
-    Case {
-        system: Net {
-            cap: 1,
-            first_tokens: vec![1, 0, 0],
-            transitions: vec![
-                moves(0, 0, 1),
-                moves(1, 1, 0),
-                moves(2, 1, 2),
-                moves(3, 0, 0),
-                moves(3, 2, 2),
-            ],
-        },
-        pairs: Vec::new(),
-        observable: vec![0, 3],
-        pattern: chain_pattern(&[2, 3]),
-        finals: vec![chain_final(2)],
-        log: log.to_vec(),
-    }
-}
-
-/// A case whose file is the longest there is. Each firing changes nothing, so
-/// one product marking is reachable.
-pub fn longest() -> Case {
-    let all = |places: u8| (0..places).collect::<Vec<u8>>();
-    let full = |places: u8| {
-        move |label: u8| Transition {
-            label,
-            inputs: all(places),
-            outputs: all(places),
-        }
-    };
-    Case {
-        system: Net {
-            cap: 15,
-            first_tokens: vec![15; 16],
-            transitions: (0..48).map(|number| full(16)(number % 32)).collect(),
-        },
-        pairs: (0..32)
-            .map(|number| Pair {
-                higher: number,
-                lower: number + 16,
-            })
-            .collect(),
-        observable: (0..32).collect(),
-        pattern: Net {
-            cap: 15,
-            first_tokens: vec![15; 8],
-            transitions: (0..16).map(full(8)).collect(),
-        },
-        finals: (0..8)
-            .map(|least| vec![Bounds { least, most: 15 }; 8])
-            .collect(),
-        log: (0..40).map(|number| number % 16).collect(),
-    }
-}
-
-/// A binary counter of this many bits, two places for each, which counts in
-/// silence (label 0). Once all bits are set, label 1 clears them; with all bits
-/// clear, label 2 can be observed. So each 1 in the log takes 2^bits firings.
-pub fn counter_case(bits: u8, log: &[u8]) -> Case {
-    let (clear, set) = (|bit: u8| 2 * bit, |bit: u8| 2 * bit + 1);
-    let mut transitions = Vec::new();
-    for bit in 0..bits {
-        let mut inputs: Vec<u8> = (0..bit).map(set).collect();
-        inputs.push(clear(bit));
-        let mut outputs: Vec<u8> = (0..bit).map(clear).collect();
-        outputs.push(set(bit));
-        transitions.push(Transition {
-            label: 0,
-            inputs,
-            outputs,
-        });
-    }
-    let all_set: Vec<u8> = (0..bits).map(set).collect();
-    let all_clear: Vec<u8> = (0..bits).map(clear).collect();
-    transitions.push(Transition {
-        label: 1,
-        inputs: all_set,
-        outputs: all_clear.clone(),
-    });
-    transitions.push(Transition {
-        label: 2,
-        inputs: all_clear.clone(),
-        outputs: all_clear,
-    });
-    Case {
-        system: Net {
-            cap: 1,
-            first_tokens: [1, 0].repeat(usize::from(bits)),
-            transitions,
-        },
-        pairs: Vec::new(),
-        observable: vec![1, 2],
-        pattern: chain_pattern(&[2]),
-        finals: vec![chain_final(1)],
-        log: log.to_vec(),
-    }
-}
-
-/// The same counter with one place for each bit, up to 512 markings. Carrying
-/// into a bit outranks carrying into the bit below it, which stays enabled, so
-/// exactly one transition is firable at a time; label 1 clears all bits.
-pub fn priority_counter_case(bits: u8, log: &[u8]) -> Case {
-    let carry = |bit: u8| Transition {
-        label: 0,
-        inputs: (0..bit).collect(),
-        outputs: vec![bit],
-    };
-    let mut transitions: Vec<Transition> = (0..bits).map(carry).collect();
-    transitions.push(Transition {
-        label: 1,
-        inputs: (0..bits).collect(),
-        outputs: vec![],
-    });
-    Case {
-        system: Net {
-            cap: 1,
-            first_tokens: vec![0; usize::from(bits)],
-            transitions,
-        },
-        pairs: (0..bits)
-            .map(|bit| Pair {
-                higher: bit + 1,
-                lower: bit,
-            })
-            .collect(),
-        observable: vec![1],
-        pattern: chain_pattern(&[2]),
-        finals: vec![chain_final(1)],
-        log: log.to_vec(),
-    }
-}
-
-fn moves(label: u8, from: u8, to: u8) -> Transition {
-    Transition {
-        label,
-        inputs: vec![from],
-        outputs: vec![to],
-    }
-}
-
-/// A pattern that waits for these labels in order, moving one token along.
-pub fn chain_pattern(labels: &[u8]) -> Net {
-    let places = labels.len() as u8 + 1;
-    let first_tokens = (0..places).map(|place| u8::from(place == 0)).collect();
-    let along = (0u8..)
-        .zip(labels)
-        .map(|(place, label)| moves(*label, place, place + 1));
-    Net {
-        cap: 1,
-        first_tokens,
-        transitions: along.collect(),
-    }
-}
-
-/// Final with the token in the last place of a chain of this many labels.
-pub fn chain_final(labels: usize) -> Vec<Bounds> {
-    let mut bounds = vec![Bounds { least: 0, most: 1 }; labels];
-    bounds.push(Bounds { least: 1, most: 1 });
-    bounds
-}
 
 fn hub_like(random: &mut Random) -> Case {
     let mut case = hub(&[]);
@@ -520,20 +370,6 @@ fn left_final(random: &mut Random) -> Case {
     case
 }
 
-/// Pairs of places, `tokens` of them in the first of each pair, that move over
-/// one by one: a pair with n tokens has n + 1 markings, and the pairs multiply.
-fn moving_over(tokens: &[u8], cap: u8, first_label: u8) -> Net {
-    let first_tokens = tokens.iter().flat_map(|count| [*count, 0]).collect();
-    let over = (0u8..)
-        .zip(tokens)
-        .map(|(pair, _)| moves(first_label + pair, 2 * pair, 2 * pair + 1));
-    Net {
-        cap,
-        first_tokens,
-        transitions: over.collect(),
-    }
-}
-
 fn pattern_markings(random: &mut Random) -> Case {
     let mut case = moving(random);
     // 63, 64 (four times), 65, 66, 128 and 256 markings.
@@ -582,15 +418,8 @@ fn product_markings(random: &mut Random) -> Case {
         &[7, 15],
     ]);
     let mut system = moving_over(tokens, 15, 0);
-    let places = system.first_tokens.len() as u8;
     if random.chance(40) {
-        // A gate that opens first: one marking more.
-        for one in &mut system.transitions {
-            one.inputs.push(places + 1);
-            one.outputs.push(places + 1);
-        }
-        system.first_tokens.extend([1, 0]);
-        system.transitions.push(moves(5, places, places + 1));
+        add_gate(&mut system, 5);
     }
     if random.chance(40) {
         // Something that the pattern can follow at any time: twice the markings.
@@ -900,17 +729,18 @@ fn damaged_records(random: &mut Random) -> Vec<u8> {
     records.concat()
 }
 
-struct Walk {
-    labels: Vec<u8>,
-    log: Vec<u8>,
+pub struct Walk {
+    pub run: Run,
+    pub labels: Vec<u8>,
+    pub log: Vec<u8>,
 }
 
 /// Fires at random within the cap, and notes what was fired and what is seen of
 /// it, so that the log has an explanation.
-fn walk(random: &mut Random, case: &Case, steps: usize) -> Walk {
+pub fn walk(random: &mut Random, case: &Case, steps: usize) -> Walk {
     let slips = Slips::default();
     let mut marking = net::first_marking(&case.system);
-    let mut labels = Vec::new();
+    let mut run = Run::new();
     for _ in 0..steps {
         let after = |number: usize| net::fire(&case.system.transitions[number], &marking, &slips);
         let ways: Vec<usize> = (0..case.system.transitions.len())
@@ -922,14 +752,16 @@ fn walk(random: &mut Random, case: &Case, steps: usize) -> Walk {
         }
         let number = *random.pick(&ways);
         marking = after(number);
-        labels.push(case.system.transitions[number].label);
+        run.push(number as u8);
     }
+    let label = |number: &u8| case.system.transitions[usize::from(*number)].label;
+    let labels: Vec<u8> = run.iter().map(label).collect();
     let seen = labels
         .iter()
         .copied()
         .filter(|label| case.observable.contains(label));
     let log = seen.take(usize::from(case::MOST_LOG)).collect();
-    Walk { labels, log }
+    Walk { run, labels, log }
 }
 
 /// Observable labels in any order, whether or not a run has them.
@@ -942,70 +774,4 @@ fn any_log(random: &mut Random, case: &Case, most: usize) -> Vec<u8> {
     (0..length)
         .map(|_| *random.pick(&case.observable))
         .collect()
-}
-
-/// The generator splitmix64, with the few ways of asking that are used here.
-struct Random {
-    state: u64,
-}
-
-impl Random {
-    /// Each file has its own start, far from its neighbours'.
-    fn new(seed: u64, index: u64) -> Random {
-        let mut outer = Random { state: seed };
-        let mixed = outer.next() ^ index.wrapping_mul(0xD134_2543_DE82_EF95);
-        Random { state: mixed }
-    }
-
-    fn next(&mut self) -> u64 {
-        self.state = self.state.wrapping_add(0x9E37_79B9_7F4A_7C15);
-        let mut mixed = self.state;
-        mixed = (mixed ^ (mixed >> 30)).wrapping_mul(0xBF58_476D_1CE4_E5B9);
-        mixed = (mixed ^ (mixed >> 27)).wrapping_mul(0x94D0_49BB_1331_11EB);
-        mixed ^ (mixed >> 31)
-    }
-
-    fn under(&mut self, limit: usize) -> usize {
-        (self.next() % limit as u64) as usize
-    }
-
-    fn between(&mut self, least: usize, most: usize) -> usize {
-        least + self.under(most - least + 1)
-    }
-
-    fn chance(&mut self, percent: usize) -> bool {
-        self.under(100) < percent
-    }
-
-    fn pick<'l, T>(&mut self, list: &'l [T]) -> &'l T {
-        &list[self.under(list.len())]
-    }
-
-    fn shuffle<T>(&mut self, list: &mut [T]) {
-        for last in (1..list.len()).rev() {
-            list.swap(last, self.under(last + 1));
-        }
-    }
-
-    /// From `least` to `most` numbers, each under the limit (256 at most).
-    fn numbers(&mut self, least: usize, most: usize, limit: usize) -> Vec<u8> {
-        let count = self.between(least, most);
-        (0..count).map(|_| self.under(limit) as u8).collect()
-    }
-
-    /// This many different numbers under the limit, rising.
-    fn rising(&mut self, count: usize, limit: usize) -> Vec<u8> {
-        let mut all: Vec<u8> = (0..limit as u8).collect();
-        self.shuffle(&mut all);
-        all.truncate(count);
-        all.sort();
-        all
-    }
-
-    /// A few different numbers under the limit, rising; often one, seldom many.
-    fn some_rising(&mut self, limit: usize) -> Vec<u8> {
-        let most = if self.chance(80) { limit.min(2) } else { limit };
-        let count = self.between(0, most);
-        self.rising(count, limit)
-    }
 }

@@ -1,7 +1,9 @@
 //! Replay (01, "Listing and replay"): fires the given numbers one by one.
 
+use std::fmt;
+
 use crate::checks;
-use crate::net::{self, ProductMarking};
+use crate::net::{self, Marking, ProductMarking};
 use crate::{Refusal, Slips};
 
 /// Why a replay stopped, in the order in which it is asked before each firing.
@@ -13,6 +15,17 @@ pub enum Stop {
     CapPassed,
 }
 
+impl fmt::Display for Stop {
+    fn fmt(&self, out: &mut fmt::Formatter<'_>) -> fmt::Result {
+        out.write_str(match self {
+            Stop::RunEnded => "run ended",
+            Stop::BudgetSpent => "budget spent",
+            Stop::NotFirable => "not firable",
+            Stop::CapPassed => "cap passed",
+        })
+    }
+}
+
 #[derive(Clone, Debug, PartialEq, Eq)]
 pub struct Replay {
     pub fired: usize,
@@ -20,6 +33,25 @@ pub struct Replay {
     pub is_final: bool,
     pub stop: Stop,
     pub explains: bool,
+}
+
+impl Replay {
+    /// The report in words: how many were fired, the system's marking, the
+    /// pattern's, whether that is final, why it stopped, whether it explains.
+    pub fn words(&self) -> [String; 6] {
+        let tokens = |marking: &Marking| {
+            let words: Vec<String> = marking.iter().map(u32::to_string).collect();
+            words.join(" ")
+        };
+        [
+            format!("fired {}", self.fired),
+            tokens(&self.marking.system),
+            tokens(&self.marking.pattern),
+            if self.is_final { "final" } else { "not final" }.into(),
+            self.stop.to_string(),
+            if self.explains { "explains" } else { "no" }.into(),
+        ]
+    }
 }
 
 /// Replays a run on a case file; refusals 2 to 7.

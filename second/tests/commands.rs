@@ -1,13 +1,13 @@
 //! The built program: what each command prints, and its exit status.
 
-mod common;
-use common::*;
-
 use std::io::Write;
+use std::path::PathBuf;
 use std::process::{Command, Output, Stdio};
 
 use second::case;
-use second::make::{self, counter_case, hub, longest};
+use second::corpus::{Corpus, Kind};
+use second::known::{counter_case, hub, hub_case, longest};
+use second::make;
 
 fn call(arguments: &[&str], input: &[u8]) -> Output {
     let mut child = Command::new(env!("CARGO_BIN_EXE_second"))
@@ -45,9 +45,8 @@ fn verdicts() {
         "ambiguous\nF 3 0 2 4\nC 3 0 1 3\n",
     );
     prints(&["verdict"], &hub_file(&[]), "safe\nC 0\n");
-    let mut h6 = hub(&[0, 3]);
-    h6.pairs = vec![pair(2, 1)];
-    prints(&["verdict"], &case::bytes(&h6), "faulty\nF 3 0 2 4\n");
+    let h6 = case::bytes(&hub_case(6));
+    prints(&["verdict"], &h6, "faulty\nF 3 0 2 4\n");
     prints(&["verdict"], &hub_file(&[0, 3])[..82], "refused 2 81\n");
     prints(&["verdict"], &[], "refused 2 0\n");
     let mut longer = case::bytes(&longest());
@@ -154,9 +153,14 @@ fn rewriting_and_checks() {
     }
 }
 
+/// A folder of this test's own, which is not there yet.
+fn new_folder(name: &str) -> PathBuf {
+    std::env::temp_dir().join(format!("second-{name}-{}", std::process::id()))
+}
+
 #[test]
 fn making_files() {
-    let folder = std::env::temp_dir().join(format!("second-made-{}", std::process::id()));
+    let folder = new_folder("made");
     let name = folder.to_str().expect("a plain name");
     prints(&["make", "7", "25", name], &[], "");
     for index in 0..25 {
@@ -167,9 +171,26 @@ fn making_files() {
     std::fs::remove_dir_all(&folder).expect("the folder goes");
 }
 
+/// Two makings, in two processes, give the same bytes.
+#[test]
+fn making_corpora() {
+    for kind in Kind::ALL {
+        let folder = new_folder(kind.name());
+        let name = folder.to_str().expect("a plain name");
+        prints(&["corpus", kind.name(), name], &[], "");
+        let [entries, expected] = ["corpus", "expected"]
+            .map(|name| std::fs::read(folder.join(name)).expect("a file of the corpus"));
+        let made = Corpus::of(kind);
+        assert!(entries == made.entries, "{kind:?}");
+        assert!(expected == made.expected.as_bytes(), "{kind:?}");
+        assert_eq!(std::fs::read_dir(&folder).expect("the folder").count(), 2);
+        std::fs::remove_dir_all(&folder).expect("the folder goes");
+    }
+}
+
 #[test]
 fn wrong_calls() {
-    let wrong: [&[&str]; 25] = [
+    let wrong: [&[&str]; 28] = [
         &[],
         &[""],
         &["help"],
@@ -195,6 +216,9 @@ fn wrong_calls() {
         &["make", "1", "2"],
         &["make", "x", "2", "folder"],
         &["make", "1", "2", "folder", "more"],
+        &["corpus", "files"],
+        &["corpus", "file", "folder"],
+        &["corpus", "files", "folder", "more"],
     ];
     for arguments in wrong {
         let output = call(arguments, &hub_file(&[]));

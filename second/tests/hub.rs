@@ -4,7 +4,7 @@ mod common;
 use common::*;
 
 use second::case;
-use second::make::{chain_final, chain_pattern, hub};
+use second::known::{bounds, hub, hub_case};
 
 const HUB_FILE: &[u8] = b"NT\x03\x01\x01\x00\x00\
     TR\x00\x01\x00\x01\x01TR\x01\x01\x01\x01\x00TR\x02\x01\x01\x01\x02TR\x03\x01\x00\x01\x00TR\x03\x01\x02\x01\x02\
@@ -22,31 +22,23 @@ fn the_file_has_83_bytes() {
 
 #[test]
 fn h1_to_h5_logs() {
-    assert_eq!(verdict(&hub(&[])), safe(&[]));
-    assert_eq!(verdict(&hub(&[3])), safe(&[3]));
-    assert_eq!(verdict(&hub(&[0])), safe(&[0]));
-    assert_eq!(verdict(&hub(&[0, 3])), ambiguous(&[0, 2, 4], &[0, 1, 3]));
-    assert_eq!(verdict(&hub(&[0, 3, 0])), safe(&[0, 1, 3, 0]));
+    assert_eq!(verdict(&hub_case(1)), safe(&[]));
+    assert_eq!(verdict(&hub_case(2)), safe(&[3]));
+    assert_eq!(verdict(&hub_case(3)), safe(&[0]));
+    assert_eq!(verdict(&hub_case(4)), ambiguous(&[0, 2, 4], &[0, 1, 3]));
+    assert_eq!(verdict(&hub_case(5)), safe(&[0, 1, 3, 0]));
 }
 
 #[test]
 fn h6_to_h8_priorities() {
-    let mut h6 = hub(&[0, 3]);
-    h6.pairs = vec![pair(2, 1)];
-    assert_eq!(verdict(&h6), faulty(&[0, 2, 4]));
-    let mut h7 = hub(&[0, 3, 0]);
-    h7.pairs = vec![pair(2, 1)];
-    assert_eq!(verdict(&h7), refused(10, 0));
-    let mut h8 = hub(&[0, 3]);
-    h8.pairs = vec![pair(1, 2)];
-    assert_eq!(verdict(&h8), safe(&[0, 1, 3]));
+    assert_eq!(verdict(&hub_case(6)), faulty(&[0, 2, 4]));
+    assert_eq!(verdict(&hub_case(7)), refused(10, 0));
+    assert_eq!(verdict(&hub_case(8)), safe(&[0, 1, 3]));
 }
 
 #[test]
 fn h9_silent_firings_after_the_log() {
-    let mut h9 = hub(&[0]);
-    h9.pattern = chain_pattern(&[2]);
-    h9.finals = vec![chain_final(1)];
+    let mut h9 = hub_case(9);
     assert_eq!(verdict(&h9), ambiguous(&[0, 2], &[0]));
     // With the hub's three places, one of them unused, it is the same.
     h9.pattern.first_tokens.push(0);
@@ -56,7 +48,7 @@ fn h9_silent_firings_after_the_log() {
 
 #[test]
 fn h10_to_h12_listings() {
-    let h4 = hub(&[0, 3]);
+    let h4 = hub_case(4);
     assert_eq!(
         list(&h4, 3),
         Ok(vec![(false, vec![0, 1, 3]), (true, vec![0, 2, 4])])
@@ -67,5 +59,5 @@ fn h10_to_h12_listings() {
         (false, vec![0, 1, 3, 0, 1]),
         (false, vec![0, 1, 3, 0, 2]),
     ];
-    assert_eq!(list(&hub(&[0, 3, 0]), 5), Ok(h12));
+    assert_eq!(list(&hub_case(5), 5), Ok(h12));
 }

@@ -5,16 +5,13 @@ mod common;
 use common::*;
 
 use second::case::{self, Bounds, Case, Net};
-use second::judge::{Listing, LEAST_WORK_ROOM};
-use second::make::{chain_final, chain_pattern, counter_case, hub, longest, priority_counter_case};
+use second::corpus::{faults, sides};
+use second::judge::{Kind, Listing, LEAST_WORK_ROOM};
+use second::known::{
+    add_gate, all_limits, arcs, bounds, chain_final, chain_pattern, changed_hub, counter_case, hub,
+    hub_case, longest, moving_over, pair, priority_counter_case,
+};
 use second::Slips;
-
-fn place_of(case: &Case) -> Option<usize> {
-    case::read(&case::bytes(case)).err().map(|refusal| {
-        assert_eq!(refusal.number, 2);
-        refusal.beside
-    })
-}
 
 #[test]
 fn pairs_that_close_a_cycle() {
@@ -93,10 +90,7 @@ fn rooms_for_the_shown_runs() {
     assert_eq!(with_rooms(&h4, LEAST_WORK_ROOM, 3, 2), refused(11, 3));
     assert_eq!(with_rooms(&h4, LEAST_WORK_ROOM, 3, 3), found);
     // The matching run's room comes first.
-    let mut h9 = hub(&[0]);
-    h9.pattern = chain_pattern(&[2]);
-    h9.finals = vec![chain_final(1)];
-    let h9 = case::bytes(&h9);
+    let h9 = case::bytes(&hub_case(9));
     assert_eq!(with_rooms(&h9, LEAST_WORK_ROOM, 1, 0), refused(11, 2));
     assert_eq!(with_rooms(&h9, LEAST_WORK_ROOM, 2, 0), refused(11, 1));
     assert_eq!(
@@ -151,17 +145,6 @@ fn logs_of_40_and_41_labels() {
     assert_eq!(verdict(&hub(&[3; 41])), refused(2, 76));
 }
 
-/// A pattern of pairs of places with these tokens that move over one by one.
-fn moving_over(tokens: &[u8]) -> Net {
-    Net {
-        cap: 15,
-        first_tokens: tokens.iter().flat_map(|count| [*count, 0]).collect(),
-        transitions: (0..tokens.len() as u8)
-            .map(|n| arcs(n, &[2 * n], &[2 * n + 1]))
-            .collect(),
-    }
-}
-
 fn never_final(net: &Net) -> Vec<Vec<Bounds>> {
     // More tokens in the first place than it ever holds.
     let mut all = vec![Bounds { least: 0, most: 15 }; net.first_tokens.len()];
@@ -178,7 +161,7 @@ fn pattern_markings_64_and_65() {
         (vec![1, 1, 3, 3], 64),
         (vec![4, 12], 65),
     ] {
-        case.pattern = moving_over(&tokens);
+        case.pattern = moving_over(&tokens, 15, 0);
         case.finals = never_final(&case.pattern);
         let expected = if count <= 64 { None } else { Some(4) };
         assert_eq!(
@@ -188,7 +171,7 @@ fn pattern_markings_64_and_65() {
         );
     }
     // A firing past the cap is not followed: 64 markings stay 64, and it is 5.
-    case.pattern = moving_over(&[7, 7]);
+    case.pattern = moving_over(&[7, 7], 15, 0);
     case.pattern.first_tokens.push(15);
     case.pattern.transitions.push(arcs(9, &[], &[4]));
     case.finals = never_final(&case.pattern);
@@ -212,22 +195,16 @@ fn pattern_markings_64_and_65() {
 #[test]
 fn product_markings_512_and_513() {
     let mut case = hub(&[]);
-    case.system = moving_over(&[7, 7, 7]);
+    case.system = moving_over(&[7, 7, 7], 15, 0);
     case.observable = vec![];
     assert_eq!(checks(&case).err(), None);
     case.pattern = chain_pattern(&[20]);
     case.finals = vec![chain_final(1)];
     assert_eq!(checks(&case), Ok(512));
-    // A gate that opens first adds one marking.
-    for one in &mut case.system.transitions {
-        one.inputs.push(7);
-        one.outputs.push(7);
-    }
-    case.system.first_tokens.extend([1, 0]);
-    case.system.transitions.push(arcs(9, &[6], &[7]));
+    add_gate(&mut case.system, 9);
     assert_eq!(checks(&case), refused(8, 0));
     // The pattern counts too: 256 markings, each with two of the pattern.
-    case.system = moving_over(&[15, 15]);
+    case.system = moving_over(&[15, 15], 15, 0);
     case.system.transitions.push(arcs(20, &[], &[]));
     assert_eq!(checks(&case), Ok(512));
     case.pattern = chain_pattern(&[20, 20]);
@@ -278,120 +255,53 @@ fn refusals_speak_in_order() {
     assert_eq!(verdict(&case), refused(2, place));
 }
 
-/// Both sides of a limit of the layout: the case reads, and one more is refused
-/// at the record where it breaks.
-fn both_sides(good: &Case, bad: &Case, place: usize) {
-    assert_eq!(place_of(good), None);
-    assert_eq!(place_of(bad), Some(place));
-}
-
-fn changed(change: impl Fn(&mut Case)) -> Case {
-    let mut case = hub(&[0, 3]);
-    change(&mut case);
-    case
+#[test]
+fn the_first_of_several_faults_speaks() {
+    for set in faults::fault_sets(&[2, 3, 4, 5, 6, 7, 8, 9, 10]) {
+        let first = set.iter().map(|fault| fault.number).min();
+        let said = verdict(&faults::with_faults(&set)).err();
+        assert_eq!(said.map(|refusal| refusal.number), first, "{set:?}");
+    }
 }
 
 #[test]
-fn limits_of_nets() {
-    let places = |count| changed(|case| case.system.first_tokens.resize(count, 0));
-    both_sides(&places(16), &places(17), 0);
-    let no_places = changed(|case| case.system.first_tokens.clear());
-    assert_eq!(place_of(&no_places), Some(0));
-    let cap = |cap| changed(|case| case.system.cap = cap);
-    both_sides(&cap(15), &cap(16), 0);
-    both_sides(&cap(1), &cap(0), 0);
-    let tokens = |tokens| changed(|case| case.system.first_tokens[2] = tokens);
-    both_sides(&tokens(1), &tokens(2), 0);
-    let pattern_places = |count| {
-        changed(|case| {
-            case.pattern.first_tokens.resize(count, 0);
-            case.finals[0].resize(count, Bounds { least: 0, most: 1 });
-        })
-    };
-    both_sides(&pattern_places(8), &pattern_places(9), 47);
-    let pattern_cap = |cap| changed(|case| case.pattern.cap = cap);
-    both_sides(&pattern_cap(15), &pattern_cap(16), 47);
+fn both_sides_of_the_layout() {
+    for (number, sides) in sides::of_layout().into_iter().enumerate() {
+        let [within, past] =
+            [&sides.within, &sides.past].map(|case| case::read(&case::bytes(case)));
+        assert_eq!(within.as_ref(), Ok(&sides.within), "limit {number}");
+        assert_eq!(past, Err(sides.refusal), "limit {number}");
+    }
 }
 
 #[test]
-fn limits_of_transitions() {
-    let transitions =
-        |count| changed(|case| case.system.transitions.resize(count, arcs(3, &[], &[])));
-    let bad = transitions(49);
-    both_sides(&transitions(48), &bad, offset_of(&bad, b"TR", 48));
-    let pattern = |count| changed(|case| case.pattern.transitions.resize(count, arcs(3, &[], &[])));
-    let bad = pattern(17);
-    both_sides(&pattern(16), &bad, offset_of(&bad, b"PX", 16));
-    let label = |label| changed(|case| case.system.transitions[4].label = label);
-    both_sides(&label(31), &label(32), 35);
-    let pattern_label = |label| changed(|case| case.pattern.transitions[1].label = label);
-    both_sides(&pattern_label(31), &pattern_label(32), 61);
-    let input = |place| changed(|case| case.system.transitions[0].inputs = vec![place]);
-    both_sides(&input(2), &input(3), 7);
-    let outputs = |list: &[u8]| changed(|case| case.system.transitions[0].outputs = list.to_vec());
-    both_sides(&outputs(&[0, 1, 2]), &outputs(&[0, 1, 2, 3]), 7);
-    both_sides(&outputs(&[0, 2]), &outputs(&[2, 0]), 7);
-    both_sides(&outputs(&[]), &outputs(&[1, 1]), 7);
-    let no_transitions = changed(|case| case.system.transitions.clear());
-    assert_eq!(place_of(&no_transitions), None);
+fn both_sides_of_the_checks() {
+    for (number, sides) in sides::of_checks().into_iter().enumerate() {
+        assert_eq!(checks(&sides.within).err(), None, "limit {number}");
+        assert_eq!(checks(&sides.past), Err(sides.refusal), "limit {number}");
+    }
 }
 
 #[test]
-fn limits_of_pairs_and_labels() {
-    // The hub has 5 transitions; 8 give room for 33 pairs.
-    let pairs = |count: usize| {
-        changed(|case| {
-            case.system.transitions.resize(8, arcs(3, &[], &[]));
-            let all = (0..8).flat_map(|higher| (0..8).map(move |lower| pair(higher, lower)));
-            case.pairs = all.take(count).collect();
-        })
-    };
-    let bad = pairs(33);
-    both_sides(&pairs(32), &bad, offset_of(&bad, b"PR", 32));
-    let listed = |list: &[(u8, u8)]| {
-        changed(|case| {
-            case.pairs = list
-                .iter()
-                .map(|(higher, lower)| pair(*higher, *lower))
-                .collect()
-        })
-    };
-    both_sides(&listed(&[(0, 4), (1, 0)]), &listed(&[(1, 0), (0, 4)]), 46);
-    both_sides(&listed(&[(1, 2), (1, 3)]), &listed(&[(1, 3), (1, 2)]), 46);
-    both_sides(&listed(&[(4, 4)]), &listed(&[(4, 5)]), 42);
-    both_sides(&listed(&[(4, 0)]), &listed(&[(5, 0)]), 42);
-    both_sides(&listed(&[(0, 1)]), &listed(&[(0, 1), (0, 1)]), 46);
-    let observable = |list: Vec<u8>| changed(|case| case.observable = list.clone());
-    both_sides(
-        &observable((0..32).collect()),
-        &observable((0..33).collect()),
-        42,
-    );
-    both_sides(&observable(vec![0, 3, 31]), &observable(vec![0, 3, 32]), 42);
-    both_sides(&observable(vec![0, 2, 3]), &observable(vec![0, 3, 3]), 42);
-    let unseen = changed(|case| {
-        case.observable.clear();
-        case.log.clear();
-    });
-    assert_eq!(place_of(&unseen), None);
-}
-
-#[test]
-fn limits_of_finals_and_log() {
-    let finals = |count| {
-        changed(|case| {
-            let one = case.finals[0].clone();
-            case.finals = vec![one; count];
-        })
-    };
-    both_sides(&finals(8), &finals(9), 68 + 8 * 8);
-    both_sides(&finals(1), &finals(0), 68);
-    let bound = |least, most| changed(|case| case.finals[0][1] = Bounds { least, most });
-    both_sides(&bound(1, 1), &bound(1, 0), 68);
-    both_sides(&bound(0, 1), &bound(0, 2), 68);
-    let log = |count| changed(|case| case.log = vec![3; count]);
-    both_sides(&log(40), &log(41), 76);
-    both_sides(&log(0), &changed(|case| case.log = vec![2]), 76);
+fn all_limits_at_once() {
+    let case = all_limits(&[], false);
+    let sizes = [
+        case.system.first_tokens.len(),
+        case.system.transitions.len(),
+        case.pairs.len(),
+        case.observable.len(),
+        case.pattern.first_tokens.len(),
+        case.pattern.transitions.len(),
+        case.finals.len(),
+        case.log.len(),
+    ];
+    assert_eq!(sizes, [16, 48, 32, 32, 8, 16, 8, 40]);
+    assert_eq!(checks(&case), Ok(512));
+    assert_eq!(checks(&all_limits(&[], true)), refused(8, 0));
+    let kind = |silent: &[u8]| verdict(&all_limits(silent, false)).map(|found| found.kind);
+    assert_eq!(kind(&[]), Ok(Kind::Safe));
+    assert_eq!(kind(&[1]), Ok(Kind::Ambiguous));
+    assert_eq!(kind(&[1, 20, 21]), Ok(Kind::Faulty));
 }
 
 #[test]
@@ -415,13 +325,13 @@ fn cases_that_no_file_reads_as() {
     assert_eq!(case::write(&good, 83).map(|file| file.len()), Ok(83));
     assert_eq!(case::write(&good, 82), refused(11, 83));
     for bad in [
-        changed(|case| case.log = vec![1]),
-        changed(|case| case.log = vec![3; 41]),
-        changed(|case| case.log = vec![3; 258]),
-        changed(|case| case.finals.clear()),
-        changed(|case| case.observable = vec![3, 0]),
-        changed(|case| case.system.transitions[0].inputs = vec![7]),
-        changed(|case| case.finals[0].push(Bounds { least: 0, most: 0 })),
+        changed_hub(|case| case.log = vec![1]),
+        changed_hub(|case| case.log = vec![3; 41]),
+        changed_hub(|case| case.log = vec![3; 258]),
+        changed_hub(|case| case.finals.clear()),
+        changed_hub(|case| case.observable = vec![3, 0]),
+        changed_hub(|case| case.system.transitions[0].inputs = vec![7]),
+        changed_hub(|case| case.finals[0].push(Bounds { least: 0, most: 0 })),
         Case::default(),
     ] {
         assert_eq!(case::write(&bad, 0), refused(14, 0));

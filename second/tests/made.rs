@@ -6,17 +6,13 @@ use common::*;
 use std::collections::BTreeMap;
 
 use second::case;
-use second::judge::{Kind, LEAST_WORK_ROOM};
+use second::judge::LEAST_WORK_ROOM;
 use second::make::{self, LISTED_LIMIT, MOST_LISTED};
 
 /// The name of what a verdict with the program's rooms says.
 fn outcome(file: &[u8]) -> String {
     match with_rooms(file, LEAST_WORK_ROOM, 2_048, 2_048) {
-        Ok(verdict) => match verdict.kind {
-            Kind::Faulty => "faulty".into(),
-            Kind::Safe => "safe".into(),
-            Kind::Ambiguous => "ambiguous".into(),
-        },
+        Ok(verdict) => verdict.kind.to_string(),
         Err(refusal) => format!("refused {}", refusal.number),
     }
 }

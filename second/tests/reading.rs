@@ -5,7 +5,7 @@ mod common;
 use common::*;
 
 use second::case::{self, Case};
-use second::make::{hub, longest};
+use second::known::{hub, longest, pair};
 
 /// What must hold whatever the bytes are. A file that reads is written again
 /// byte for byte; one that is refused has good records, and nothing else,

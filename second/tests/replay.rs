@@ -4,7 +4,7 @@ mod common;
 use common::*;
 
 use second::case::{self, Case};
-use second::make::{counter_case, hub};
+use second::known::{arcs, counter_case, hub, hub_case, pair};
 use second::net::ProductMarking;
 use second::replay::{replay, Replay, Stop};
 use second::{Refusal, Slips};
@@ -93,10 +93,8 @@ fn the_next_is_not_firable() {
     assert_eq!(replayed(&h4, &[0, 2, 4, 5], 9), stopped);
     assert_eq!(replayed(&h4, &[0, 2, 4, 255], 9), stopped);
     // Enabled, but a higher one is too.
-    let mut h6 = hub(&[0, 3]);
-    h6.pairs = vec![pair(2, 1)];
     assert_eq!(
-        replayed(&h6, &[0, 1], 9),
+        replayed(&hub_case(6), &[0, 1], 9),
         done(1, (AWAY, [1, 0, 0]), false, Stop::NotFirable, false)
     );
 }
@@ -147,9 +145,7 @@ fn refusals_2_to_7_and_no_other() {
     case.pattern.first_tokens = vec![10, 0, 0];
     assert_eq!(replayed(&case, &[], 0), refused(4, 0));
     // 10 is not asked: a log that nothing explains replays.
-    let mut h7 = hub(&[0, 3, 0]);
-    h7.pairs = vec![pair(2, 1)];
-    assert!(replayed(&h7, &[0, 2], 9).is_ok());
+    assert!(replayed(&hub_case(7), &[0, 2], 9).is_ok());
     // Nor is 8.
     let mut large = hub(&[0, 3]);
     large.system.cap = 15;

@@ -4,7 +4,7 @@ mod common;
 use common::*;
 
 use second::case::{Case, Net};
-use second::make::{chain_final, chain_pattern, hub};
+use second::known::{arcs, bounds, chain_final, chain_pattern, hub_case, pair};
 use second::Slips;
 
 fn right() -> Slips {
@@ -13,9 +13,7 @@ fn right() -> Slips {
 
 #[test]
 fn stopping_at_the_last_log_line() {
-    let mut h9 = hub(&[0]);
-    h9.pattern = chain_pattern(&[2]);
-    h9.finals = vec![chain_final(1)];
+    let h9 = hub_case(9);
     let slip = Slips {
         stop_at_last_log_line: true,
         ..right()
@@ -26,8 +24,7 @@ fn stopping_at_the_last_log_line() {
 
 #[test]
 fn calling_an_unexplained_log_safe() {
-    let mut h7 = hub(&[0, 3, 0]);
-    h7.pairs = vec![pair(2, 1)];
+    let h7 = hub_case(7);
     let slip = Slips {
         unexplained_is_safe: true,
         ..right()
@@ -91,8 +88,7 @@ fn treating_a_marking_as_a_set() {
 
 #[test]
 fn letting_the_pattern_skip_an_event() {
-    let mut h6 = hub(&[0, 3]);
-    h6.pairs = vec![pair(2, 1)];
+    let h6 = hub_case(6);
     let slip = Slips {
         pattern_may_skip: true,
         ..right()

@@ -1,7 +1,7 @@
 //! What the tests share: short ways of asking, and of saying what is expected.
 #![allow(dead_code)]
 
-use second::case::{self, Bounds, Case, Pair, Transition};
+use second::case::{self, Case};
 use second::checks;
 use second::judge::{self, Kind, Listing, Rooms, Run, Verdict, LEAST_WORK_ROOM};
 use second::{Refusal, Slips};
@@ -85,28 +85,6 @@ pub fn list(case: &Case, limit: u64) -> Result<Vec<(bool, Run)>, Refusal> {
     let listing = open_file(&case::bytes(case), limit)?;
     let all = listing.all().map(|one| (one.matching, one.run)).collect();
     Ok(all)
-}
-
-pub fn pair(higher: u8, lower: u8) -> Pair {
-    Pair { higher, lower }
-}
-
-pub fn arcs(label: u8, inputs: &[u8], outputs: &[u8]) -> Transition {
-    Transition {
-        label,
-        inputs: inputs.to_vec(),
-        outputs: outputs.to_vec(),
-    }
-}
-
-pub fn bounds(pairs: &[(u8, u8)]) -> Vec<Bounds> {
-    pairs
-        .iter()
-        .map(|(least, most)| Bounds {
-            least: *least,
-            most: *most,
-        })
-        .collect()
 }
 
 /// Where each record of the case's file begins.

@@ -1,0 +1,110 @@
+// Reads and writes again every file of the corpus, and prints for each what the second program says of it: `same` and its length, or the
+// refusal. Beside that it holds the log that is shown against the log of the case.
+use corpus::Taken;
+use rack::Case;
+use rack::Outcome;
+use rack::Written;
+
+// A byte as a number.
+fn wide(x: u8) -> usize {
+    x as usize
+}
+
+// Whether two slices hold the same bytes.
+fn same(a: &[u8], b: &[u8]) -> bool {
+    if a.len() != b.len() {
+        return false;
+    }
+    let mut i: usize = 0;
+    while i < a.len() {
+        if a[i] != b[i] {
+            return false;
+        }
+        i += 1;
+    }
+    true
+}
+
+// What is said of a case that was written to a room, n bytes long.
+fn compare(room: &[u8; 2496], n: usize, file: &[u8]) {
+    if same(report::first(room, n), file) {
+        report::text(b"same ");
+        report::number(n);
+        report::line_end();
+    } else {
+        report::text(b"other bytes\n");
+    }
+}
+
+// Whether the first labels of a log are those that are shown.
+fn labels_are(labels: &[u8; 40], count: usize, shown: &[u8]) -> bool {
+    same(report::first(labels, count), shown)
+}
+
+// Whether the log that is shown is that of the case.
+fn log_is_shown(file: &[u8], case: Case) -> bool {
+    let log = case.log;
+    let count = wide(log.count);
+    labels_are(&log.labels, count, reader::log_of(file))
+}
+
+// What comes of writing a case whose file is at hand.
+fn again(file: &[u8], case: Case) {
+    if !log_is_shown(file, case) {
+        report::text(b"log not shown\n");
+        return;
+    }
+    let mut room = [0u8; 2496];
+    let written = writer::write_case(&mut room, case);
+    match written {
+        Written::Bytes(n) => {
+            compare(&room, n, file);
+        }
+        Written::Refused(number, beside) => {
+            report::refused(number, beside);
+        }
+    }
+}
+
+// The answer for one file.
+fn answer(file: &[u8]) {
+    let reading = reader::read_case(file);
+    let outcome = reading.outcome;
+    match outcome {
+        Outcome::Whole => {
+            again(file, reading.case);
+        }
+        Outcome::Refused(number, beside) => {
+            report::refused(number, beside);
+        }
+    }
+}
+
+// Takes the next file of the corpus, and answers whether there was one.
+fn next(fd: i32, room: &mut [u8]) -> bool {
+    let taken = corpus::part(fd, room);
+    match taken {
+        Taken::Of(n) => {
+            answer(report::first(room, n));
+            true
+        }
+        Taken::Done => false,
+    }
+}
+
+// Takes every file of the corpus, up to a hundred thousand.
+fn all(fd: i32, room: &mut [u8]) {
+    let mut turns: usize = 100000;
+    while 0 < turns {
+        if !next(fd, room) {
+            return;
+        }
+        turns -= 1;
+    }
+}
+
+fn main() {
+    let fd = corpus::open();
+    let mut room = [0u8; 131072];
+    all(fd, &mut room);
+}

@@ -1,0 +1,6 @@
+pub mod Says
+pub mod Chains
+pub mod Rows
+pub mod Moves
+pub mod Faults
+pub mod Outcome

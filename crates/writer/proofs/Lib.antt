@@ -1,0 +1,17 @@
+pub mod Rows
+pub mod Spells
+pub mod Letters
+pub mod Putting
+pub mod Ones
+pub mod Repeats
+pub mod ArcRows
+pub mod Singles
+pub mod BoundRows
+pub mod TableRule
+pub mod Segments
+pub mod Kept
+pub mod Lengths
+pub mod RoundTrip
+pub mod Telling
+pub mod Structs
+pub mod Outcomes

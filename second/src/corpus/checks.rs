@@ -1,0 +1,38 @@
+//! Files for the checks 2 to 9.
+
+use super::faults::{fault_sets, with_faults};
+use super::sides::{self, BothSides};
+use super::{meanings, with_length, Entry};
+use crate::case;
+use crate::known::{all_limits, hub_case, longest};
+use crate::{checks, make, Slips};
+
+const SEED: u64 = 0x6368_6563;
+const RANDOM: u64 = 1_000;
+
+pub struct Checked(Vec<u8>);
+
+impl Entry for Checked {
+    fn bytes(&self) -> Vec<u8> {
+        with_length(&self.0)
+    }
+
+    fn answer(&self) -> String {
+        match checks::up_to_nine(&self.0, &Slips::default()) {
+            Err(refusal) => refusal.to_string(),
+            Ok((_, product)) => format!("accepted {}", product.markings.len()),
+        }
+    }
+}
+
+pub fn entries() -> Vec<Checked> {
+    let mut cases: Vec<_> = (1..=9).map(hub_case).collect();
+    cases.extend(sides::of_checks().into_iter().flat_map(BothSides::cases));
+    let faulty = fault_sets(&[2, 3, 4, 5, 6, 7, 8, 9]);
+    cases.extend(faulty.iter().map(|faults| with_faults(faults)));
+    cases.extend(meanings::cases());
+    cases.extend([longest(), all_limits(&[1], false), all_limits(&[1], true)]);
+    let by_hand = cases.iter().map(case::bytes);
+    let random = (0..RANDOM).map(|index| make::file(SEED, index));
+    by_hand.chain(random).map(Checked).collect()
+}
