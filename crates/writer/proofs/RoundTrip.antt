@@ -1,6 +1,5 @@
 -- THE ROUND TRIP: what is read and written again is the same bytes, what is written and read is the same case; one case has one file,
--- none longer than 2,496 bytes; and any two outcomes that the writer's contract allows are equal.
--- Assumes nothing.
+-- none longer than 2,496 bytes. Assumes nothing.
 use mathlib.Core.Path.{_≡_, refl, sym, ap, _∙_, subst}
 use mathlib.Core.List.{List}
 use Prim.Native.Nat.{ℕ, _≤_}
@@ -9,11 +8,7 @@ use lib.ListN.{length, take}
 use lib.Seq.{take-length}
 use Rattle.rack.specs.Layout.{zeroCase, whole, Reads, done, next, ReadsAs}
 use Rattle.rack.specs.Writing.{bytesOf, Writable}
-use Rattle.rack.specs.Refusal.{speaks, rests, none, also}
-use Rattle.rack.specs.CaseFileOutcome.{WriterIs, written, refused}
 use Rattle.rack.specs.declared.Case.{Case}
-use Rattle.rack.specs.declared.Written.{Written}
-use Rattle.rack.specs.declared.Written.the-variants.{Refused}
 use Rattle.writer.specs.Limits.{Limits}
 use Rattle.writer.proofs.Segments.{soFar, all-segments}
 use Rattle.writer.proofs.Kept.{Shaped, shape-limits, Kept, kept-next, kept-first}
@@ -43,15 +38,3 @@ read-limits {f} {c} r = shape-limits (from-here f 9 zeroCase 0 c (r .reads) (kep
 -- "The longest file has 2,496 bytes."
 pub longest : {f : List ℕ} {c : Case} → ReadsAs f c → length f ≤ 2496
 longest {f} {c} r = subst (λ (l : List ℕ). length l ≤ 2496) (read-written r) (bytes-few c (read-limits r))
-
--- any two outcomes that the writer's contract allows are equal: the answer, and each byte of the room
-pub write-unique : {c : Case} {room x y : List ℕ} {r s : Written} → WriterIs c room r x → WriterIs c room s y → (r ≡ s) × (x ≡ y)
-write-unique (written a) (written b) = (refl, refl)
-write-unique (written (also w (also e none))) (refused (speaks n)) = absurd (n .0 w)
-write-unique (written (also w (also e none))) (refused (rests w′ (speaks n))) = absurd (omega (arith, e, n .0))
-write-unique (refused (speaks n)) (written (also w (also e none))) = absurd (n .0 w)
-write-unique (refused (rests w′ (speaks n))) (written (also w (also e none))) = absurd (omega (arith, e, n .0))
-write-unique (refused (speaks m)) (refused (speaks n)) = (ap (Refused 14) (m .1 ∙ sym (n .1)), refl)
-write-unique (refused (speaks m)) (refused (rests w (speaks n))) = absurd (m .0 w)
-write-unique (refused (rests w (speaks m))) (refused (speaks n)) = absurd (n .0 w)
-write-unique (refused (rests w (speaks m))) (refused (rests w′ (speaks n))) = (ap (Refused 11) (m .1 ∙ sym (n .1)), refl)
