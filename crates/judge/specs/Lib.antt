@@ -1,0 +1,2 @@
+pub mod CaseJudged
+pub mod Kinds
