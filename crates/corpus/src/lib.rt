@@ -63,3 +63,24 @@ pub fn part(fd: i32, room: &mut [u8]) -> Taken
         }
     }
 }
+
+// Makes every byte of a room v.
+pub fn fill(room: &mut [u8], v: u8) {
+    let mut i: usize = 0;
+    while i < room.len() {
+        room[i] = v;
+        i += 1;
+    }
+}
+
+// Whether every byte of a room from `from` on is v.
+pub fn still(room: &[u8], from: usize, v: u8) -> bool {
+    let mut i = from;
+    while i < room.len() {
+        if room[i] != v {
+            return false;
+        }
+        i += 1;
+    }
+    true
+}

@@ -29,12 +29,17 @@ pub fn line_end() {
     text(b"\n");
 }
 
-// A line for a refusal: its number and the number beside it.
-pub fn refused(number_of: u8, beside: usize) {
+// A refusal without a line end: its number and the number beside it.
+pub fn refusal(number_of: u8, beside: usize) {
     text(b"refused ");
     number(wide(number_of));
     text(b" ");
     number(beside);
+}
+
+// A line for a refusal.
+pub fn refused(number_of: u8, beside: usize) {
+    refusal(number_of, beside);
     line_end();
 }
 

@@ -1,0 +1,101 @@
+-- `corpus_verdicts::with_rooms` is safe. Assumes nothing.
+use mathlib.Core.Path.{sym}
+use lib.Seq.{length-take-le}
+use native.Mathlib.Omega.{arith}
+use borrow.Author.Needs.{needs}
+use Rattle.corpus_verdicts.proofs.with_rooms.Statement.{statement}
+use Rattle.corpus_verdicts.proofs.with_rooms.Tie as tie
+use Rattle.corpus_verdicts.proofs.with_rooms.Reads as reads
+use Rattle.corpus_verdicts.proofs.with_rooms.Lts as lts
+use Rattle.corpus.proofs.part.Reads as part-reads
+use Rattle.corpus_verdicts.proofs.answer.Reads as answer-reads
+use Rattle.report.proofs.first.Reads as first-reads
+
+returns : tie.Need-returns
+returns c = search needs
+
+returns-2 : tie.Need-returns-2
+returns-2 c = search needs
+
+returns-3 : tie.Need-returns-3
+returns-3 c = search needs
+
+part-requires : tie.Need-part-requires
+part-requires c κs = search needs
+
+enum-known-taken : tie.Need-enum-known-taken
+enum-known-taken c = search needs
+
+first-requires : tie.Need-first-requires
+first-requires c κs = search needs
+
+slice-relend-prefix-answer : tie.Need-slice-relend-prefix-answer
+slice-relend-prefix-answer c = search needs
+
+slice-aggregate-answer : tie.Need-slice-aggregate-answer
+slice-aggregate-answer c = sym (length-take-le (c .before .before .before .before .before .before .before .before .before .before .before .before .before .before .before .before .before .args .m) (c .before .before .before .before .before .before .before .before .before .before .before .before .before .before .before .before .before .args .matching .now) (search needs))
+
+slice-relend-prefix-answer-2 : tie.Need-slice-relend-prefix-answer-2
+slice-relend-prefix-answer-2 c = search needs
+
+slice-aggregate-answer-2 : tie.Need-slice-aggregate-answer-2
+slice-aggregate-answer-2 c = sym (length-take-le (c .before .before .before .before .before .before .before .before .before .before .before .before .before .before .before .before .before .before .args .o) (c .before .before .before .before .before .before .before .before .before .before .before .before .before .before .before .before .before .before .args .other .now) (search needs))
+
+slice-relend-prefix-answer-3 : tie.Need-slice-relend-prefix-answer-3
+slice-relend-prefix-answer-3 c = search needs
+
+slice-aggregate-answer-3 : tie.Need-slice-aggregate-answer-3
+slice-aggregate-answer-3 c = sym (length-take-le (c .before .before .before .before .before .before .before .before .before .before .before .before .before .before .before .before .before .before .before .args .w) (c .before .before .before .before .before .before .before .before .before .before .before .before .before .before .before .before .before .before .before .args .work .now) (search needs))
+
+answer-requires : tie.Need-answer-requires
+answer-requires c κs = search needs
+
+enum-told : tie.Need-enum-told
+enum-told c = search needs
+
+same-length : tie.Need-same-length
+same-length c = search needs
+
+same-length-2 : tie.Need-same-length-2
+same-length-2 c = search needs
+
+same-length-3 : tie.Need-same-length-3
+same-length-3 c = search needs
+
+same-length-4 : tie.Need-same-length-4
+same-length-4 c = search needs
+
+returns-4 : tie.Need-returns-4
+returns-4 c = search needs
+
+same-length-5 : tie.Need-same-length-5
+same-length-5 c = search needs
+
+returns-5 : tie.Need-returns-5
+returns-5 c = search needs
+
+pub with-rooms-spec : {M : Type 1} → statement M
+with-rooms-spec =
+    tie.close
+    (tie.spec
+    returns
+    returns-2
+    returns-3
+    part-requires
+    enum-known-taken
+    first-requires
+    slice-relend-prefix-answer
+    slice-aggregate-answer
+    slice-relend-prefix-answer-2
+    slice-aggregate-answer-2
+    slice-relend-prefix-answer-3
+    slice-aggregate-answer-3
+    answer-requires
+    enum-told
+    same-length
+    same-length-2
+    same-length-3
+    same-length-4
+    returns-4
+    same-length-5
+    returns-5)
