@@ -40,7 +40,8 @@ module _ {f : List ℕ} {c : Case} (reads : ReadsAs f c) (ok : NetsPass c) (matc
   fits-none : (k : Bool) (lent : List ℕ) → ((r : List ℕ) → FirstOfKind c k r → ⊥) → Fits f k lent
   fits-none k lent absent d s p y = absurd (absent s (subst (λ (g : Case). FirstOfKind g k s) (one-case p reads) y))
 
-  accepts : (r : List ℕ) → Explains c r → RunsFit f matching other → Accepts (ofVerdict f work) (RunsFit f matching other) verdictOrder
+  -- none of the checks speaks where a run explains the log and the rooms are long enough
+  pub accepts : (r : List ℕ) → Explains c r → RunsFit f matching other → Accepts (ofVerdict f work) (RunsFit f matching other) verdictOrder
   accepts r x h =
       let q = ofVerdict f work in
       also room
@@ -96,7 +97,8 @@ unfolding runs
 given-good c n r x h = ⊎-elim (λ k. omega arith) (λ k. let z = run-known c r (start c) (x .run) (k .0) (k .1 .0) in omega (arith, z, k .1 .1))
 
 module _ {f : List ℕ} {c : Case} (reads : ReadsAs f c) (ok : NetsPass c) (n : ℕ) (low : n ≤ 24) (asked : Asked) (good : GivenBad c n asked → ⊥) (room work : List ℕ) (enough : workRoom ≤ length work) where
-  listing-accepts : NextFits f n asked room → Accepts (ofListing f n asked work) (NextFits f n asked room) listingOrder
+  -- none of the checks speaks where the room is long enough
+  pub listing-accepts : NextFits f n asked room → Accepts (ofListing f n asked work) (NextFits f n asked room) listingOrder
   listing-accepts h =
       let q = ofListing f n asked work in
       also enough

@@ -101,7 +101,7 @@ module _ (f matching other work : List ℕ) where
   run-one m n (other-short h x) (matching-short y) = absurd (fits-or-long h y)
   run-one m n (other-short h x) (other-short k y) = long-one x y
 
-  not-both : {n m : ℕ} → Refuses (ofVerdict f work) (RunShort f matching other) (RunsFit f matching other) verdictOrder n m → Accepts (ofVerdict f work) (RunsFit f matching other) verdictOrder → ⊥
+  pub not-both : {n m : ℕ} → Refuses (ofVerdict f work) (RunShort f matching other) (RunsFit f matching other) verdictOrder n m → Accepts (ofVerdict f work) (RunsFit f matching other) verdictOrder → ⊥
   not-both {n} {m} = refuses-or-accepts (ofVerdict f work) (RunShort f matching other) (RunsFit f matching other) run-short run-one verdictOrder n m
 
   -- a run of the one kind, where every explanation is of the other
@@ -159,7 +159,7 @@ module _ (f : List ℕ) (limit : ℕ) (asked : Asked) (room work : List ℕ) whe
   short-one : (m n : ℕ) → NextShort f limit asked room m → NextShort f limit asked room n → m ≡ n
   short-one m n x y = x .needed ∙ ap length (same-next (x .reads) (y .reads) (x .next) (y .next) .1) ∙ sym (y .needed)
 
-  not-listed : {n m : ℕ} → Refuses (ofListing f limit asked work) (NextShort f limit asked room) (NextFits f limit asked room) listingOrder n m → Accepts (ofListing f limit asked work) (NextFits f limit asked room) listingOrder → ⊥
+  pub not-listed : {n m : ℕ} → Refuses (ofListing f limit asked work) (NextShort f limit asked room) (NextFits f limit asked room) listingOrder n m → Accepts (ofListing f limit asked work) (NextFits f limit asked room) listingOrder → ⊥
   not-listed {n} {m} = refuses-or-accepts (ofListing f limit asked work) (NextShort f limit asked room) (NextFits f limit asked room) next-short short-one listingOrder n m
 
   -- the run given is marked in one way, and there is none at the end

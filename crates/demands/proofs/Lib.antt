@@ -1,0 +1,5 @@
+pub mod Demand1
+pub mod Upward
+pub mod Demand2
+pub mod Demand2Replay
+pub mod Demand3

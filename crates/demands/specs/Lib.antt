@@ -1,0 +1,4 @@
+pub mod Refusals
+pub mod Verdicts
+pub mod Replays
+pub mod Listings

@@ -1,0 +1,54 @@
+-- Taken without harm: what a refusal of each call leaves as it was.
+-- Assumes nothing.
+use Prim.Native.Nat.{ℕ}
+use mathlib.Core.Path.{_≡_}
+use mathlib.Core.List.{List}
+use Rattle.rack.specs.Listing.{Asked}
+use Rattle.rack.specs.Layout.{zeroCase}
+use Rattle.rack.specs.Refusal.{Refuses, readerOrder, verdictOrder, listingOrder, writerOrder, replayOrder}
+use Rattle.rack.specs.Outcome.{ofFile, NoneShort, zeroed}
+use Rattle.rack.specs.CaseFileOutcome.{ofCase, FileShort, FileEnough}
+use Rattle.rack.specs.VerdictOutcome.{ofVerdict, RunShort, RunsFit}
+use Rattle.rack.specs.ListingOutcome.{ofListing, NextShort, NextFits}
+use Rattle.rack.specs.ReplayOutcome.{replayRefused}
+use Rattle.rack.specs.declared.Case.{Case}
+use Rattle.rack.specs.declared.Outcome.the-variants as Reader
+use Rattle.rack.specs.declared.Reading.{Reading}
+use Rattle.rack.specs.declared.Written.{Written}
+use Rattle.rack.specs.declared.Written.the-variants as Writer
+use Rattle.rack.specs.declared.Judged.{Judged}
+use Rattle.rack.specs.declared.Verdict.the-variants as Verdict
+use Rattle.rack.specs.declared.Listed.{Listed}
+use Rattle.rack.specs.declared.Listed.the-variants as Listing
+use Rattle.rack.specs.declared.Stop.the-variants as Replay
+use Rattle.rack.specs.declared.Replayed.{Replayed}
+
+-- the one holds exactly where the other does
+pub record Exactly (A B : Type 0) : Type 0 where
+  pub only : A → B
+  pub whenever : B → A
+
+-- ---- each call: the refusal is given exactly where the table of refusals says so, and changes nothing
+
+pub record ReaderTaken (f : List ℕ) (x : Reading) : Type 0 where
+  pub refusal : (n m : ℕ) → Exactly (x .outcome ≡ Reader.Refused n m) (Refuses (ofFile f) NoneShort (Unit {0}) readerOrder n m)
+  pub nothing-read : (n m : ℕ) → x .outcome ≡ Reader.Refused n m → x .case ≡ zeroCase
+
+pub record WriterTaken (c : Case) (room : List ℕ) (x : Written) (a : List ℕ) : Type 0 where
+  pub refusal : (n m : ℕ) → Exactly (x ≡ Writer.Refused n m) (Refuses (ofCase c) (FileShort c room) (FileEnough c room) writerOrder n m)
+  pub untouched : (n m : ℕ) → x ≡ Writer.Refused n m → a ≡ room
+
+pub record VerdictTaken (f matching other work : List ℕ) (x : Judged) (a b w : List ℕ) : Type 0 where
+  pub refusal : (n m : ℕ) → Exactly (x .verdict ≡ Verdict.Refused n m) (Refuses (ofVerdict f work) (RunShort f matching other) (RunsFit f matching other) verdictOrder n m)
+  pub untouched : (n m : ℕ) → x .verdict ≡ Verdict.Refused n m → (a ≡ matching) × ((b ≡ other) × ((x .matching ≡ 0) × (x .other ≡ 0)))
+  pub zeros : w ≡ zeroed work
+
+pub record ListingTaken (f : List ℕ) (limit : ℕ) (asked : Asked) (room work : List ℕ) (x : Listed) (a w : List ℕ) : Type 0 where
+  pub refusal : (n m : ℕ) → Exactly (x ≡ Listing.Refused n m) (Refuses (ofListing f limit asked work) (NextShort f limit asked room) (NextFits f limit asked room) listingOrder n m)
+  pub untouched : (n m : ℕ) → x ≡ Listing.Refused n m → a ≡ room
+  pub end-untouched : x ≡ Listing.End → a ≡ room
+  pub zeros : w ≡ zeroed work
+
+pub record ReplayTaken (f : List ℕ) (x : Replayed) : Type 0 where
+  pub refusal : (n m : ℕ) → Exactly (x .stop ≡ Replay.Refused n m) (Refuses (ofFile f) NoneShort (Unit {0}) replayOrder n m)
+  pub nothing-fired : (n m : ℕ) → x .stop ≡ Replay.Refused n m → x ≡ replayRefused n m
