@@ -4,7 +4,6 @@ use mathlib.Core.Path.{_≡_, refl, sym, ap, _∙_, subst}
 use mathlib.Core.List.{List}
 use native.Mathlib.Omega.{arith}
 use lib.ListN.{length, replicate}
-use Rattle.rack.specs.Layout.{ReadsAs}
 use Rattle.rack.specs.Refusal.{workRoom}
 use Rattle.rack.specs.Outcome.{zeroed}
 use Rattle.rack.specs.VerdictOutcome.{VerdictIs}
@@ -13,9 +12,10 @@ use Rattle.rack.specs.declared.Judged.{Judged}
 use Rattle.reach.proofs.TableLaws.{table-kept}
 use Rattle.search.specs.Found.{Ready, SearchSays}
 use Rattle.search.specs.declared.Searched.{Searched}
-use Rattle.admit.specs.Admits.{NetsRefuse, of-pattern, of-product, Passes, AnswerSays, FileSays, broken, read, AdmitSays}
+use Rattle.admit.specs.Admits.{NetsRefuse, of-pattern, of-product, AdmitSays}
 use Rattle.admit.specs.declared.Answer.the-variants.{Table, Refused}
 use Rattle.admit.specs.declared.Admitted.{Admitted}
+use Rattle.admit.proofs.Taking.{RefusedFile, of-layout, of-nets, table-file, refused-file}
 use Rattle.judge.specs.CaseJudged.{refusedBy, CaseJudged, pattern-refused, product-refused, shown, JudgedSays}
 use Rattle.judge.proofs.Judging.{short-room, broken-file, verdict-of}
 
@@ -38,26 +38,18 @@ nets-refuse : {c : Case} {matching other : List ℕ} {n m : ℕ} → NetsRefuse 
 nets-refuse (of-pattern s) = pattern-refused s
 nets-refuse (of-product a s) = product-refused a s
 
-table-file : {f room : List ℕ} {r : Admitted} {n : ℕ} → FileSays f room r → r .answer ≡ Table n → ReadsAs f (r .case) × Passes (r .case) room n
-table-file (broken b) e = let z : _≡_ {A = ℕ} 0 1 = cc in absurd (omega arith)
-table-file {f} {room} (read {c = c} x s) e = (x, subst (AnswerSays c room) e s)
-
 pub admit-ready : {f work room : List ℕ} {r : Admitted} {n : ℕ} → workRoom ≤ length work → AdmitSays f work room r → r .answer ≡ Table n → Ready (r .case) room n
 admit-ready enough x e =
     let p = table-file (x .file) e .1 in
     record { well = p .well; nets = p .nets; table = p .table; long = omega (arith, x .long, enough) }
 
 module _ (f matching other work room : List ℕ) (enough : workRoom ≤ length work) where
-  refused-file : {r : Admitted} {n m : ℕ} → FileSays f room r → r .answer ≡ Refused n m → VerdictIs f matching other work (refusedBy n m) matching other (zeroed work)
-  refused-file {n = n} {m = m} (broken {p = p} b) e =
-      let a : 2 ≡ n = cc in
-      let d : p ≡ m = cc in
-      subst (λ (k : ℕ). VerdictIs f matching other work (refusedBy k m) matching other (zeroed work)) a
-      (subst (λ (k : ℕ). VerdictIs f matching other work (refusedBy 2 k) matching other (zeroed work)) d (broken-file f matching other work enough b))
-  refused-file {n = n} {m = m} (read {c = c} x s) e = verdict-of f matching other work enough x (nets-refuse (subst (AnswerSays c room) e s))
+  refused-outcome : {n m : ℕ} → RefusedFile f n m → VerdictIs f matching other work (refusedBy n m) matching other (zeroed work)
+  refused-outcome (of-layout b) = broken-file f matching other work enough b
+  refused-outcome (of-nets x s) = verdict-of f matching other work enough x (nets-refuse s)
 
   pub admit-refused : {r : Admitted} {n m : ℕ} → AdmitSays f work room r → r .answer ≡ Refused n m → VerdictIs f matching other work (refusedBy n m) matching other (zeroed work)
-  admit-refused x e = refused-file (x .file) e
+  admit-refused x e = refused-outcome (refused-file (x .file) e)
 
   -- THE VERDICT of the call
   pub admit-shown : {r : Admitted} {n : ℕ} {y : Judged} {a b v : List ℕ} → AdmitSays f work room r → r .answer ≡ Table n → JudgedSays (r .case) matching other room y a b v → VerdictIs f matching other work y a b v

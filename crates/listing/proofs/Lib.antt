@@ -1,0 +1,3 @@
+pub mod GivingLaws
+pub mod Listing
+pub mod Whole

@@ -1,0 +1,2 @@
+pub mod CaseListed
+pub mod Giving
