@@ -1,3 +1,4 @@
 pub mod GivingLaws
+pub mod Cases
 pub mod Listing
 pub mod Whole

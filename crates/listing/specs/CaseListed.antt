@@ -11,6 +11,7 @@ use Rattle.rack.specs.Listing.{Asked, NextIs, EndIs}
 use Rattle.rack.specs.Refusal.{GivenBad}
 use Rattle.rack.specs.Outcome.{holding, zeroed}
 use Rattle.rack.specs.declared.Case.{Case}
+use Rattle.search.specs.Found.{Ready}
 use Rattle.rack.specs.declared.Listed.{Listed}
 use Rattle.rack.specs.declared.Listed.the-variants.{Matching, Other, End, Refused}
 
@@ -30,3 +31,8 @@ pub data CaseListed (c : Case) (limit : ℕ) (asked : Asked) (room : List ℕ) :
 pub record ListedSays (c : Case) (limit : ℕ) (asked : Asked) (room work : List ℕ) (x : Listed) (a w : List ℕ) : Type 0 where
   pub lists : CaseListed c limit asked room x a
   pub cleared : w ≡ zeroed work
+
+-- what the listing of a case asks: a case that passes the checks 2 to 9, the table of its reachable markings in the work room, a limit that passes 12
+pub record Listing (c : Case) (work : List ℕ) (rows limit : ℕ) : Type 0 where
+  pub ready : Ready c work rows
+  pub low : limit ≤ 24

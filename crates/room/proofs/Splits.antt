@@ -1,9 +1,9 @@
 -- Cases on two numbers, and what a yes or no tells.
 -- Assumes nothing.
-use Prim.Native.Nat.{ℕ, _≤_, _<_}
-use mathlib.Core.Path.{_≡_, refl, sym, _∙_}
+use Prim.Native.Nat.{ℕ, _-_, _≤_, _<_}
+use mathlib.Core.Path.{_≡_, refl, sym, _∙_, subst}
 use mathlib.Core.Bool.{Bool, true, false, false≢true}
-use mathlib.Core.Logic.{_⊎_, inl, inr}
+use mathlib.Core.Logic.{_⊎_, inl, inr, ⊎-elim}
 use native.Mathlib.Omega.{arith}
 use native.Mathlib.Decide.{decLt, ℕ-discrete}
 use Rattle.room.specs.Says.{Says}
@@ -14,6 +14,11 @@ less-or-not k a = go (decLt k a)
     go : Dec (k < a) → (k < a) ⊎ (a ≤ k)
     go (yes l) = inl l
     go (no n) = inr (omega arith)
+
+-- what holds from i up to n, and of the number before i, holds from that number on
+pub above-more : (P : ℕ → Type 0) (i n : ℕ) → 0 < i → ((k : ℕ) → i ≤ k → k < n → P k) → P (i - 1) → (k : ℕ) → i - 1 ≤ k → k < n → P k
+above-more P i n some above here k l l′ =
+    ⊎-elim (λ (s : k < i). let e : k ≡ i - 1 = omega arith in subst P (sym e) here) (λ (s : i ≤ k). above k s l′) (less-or-not k i)
 
 pub same-or-not : (a b : ℕ) → (a ≡ b) ⊎ (a ≡ b → ⊥)
 same-or-not a b = go (ℕ-discrete a b)
