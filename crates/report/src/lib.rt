@@ -1,5 +1,9 @@
 // How the programs print their answers on standard output.
 use libc::STDOUT_FILENO;
+use rack::Net;
+use rack::PatternNet;
+use rack::Replayed;
+use rack::Stop;
 
 // A byte as a number.
 fn wide(x: u8) -> usize {
@@ -51,5 +55,97 @@ pub fn run(numbers: &[u8]) {
         text(b" ");
         number(wide(numbers[i]));
         i += 1;
+    }
+}
+
+// Counts of tokens with a blank between each two, and no line end.
+pub fn tokens(counts: &[u8]) {
+    let mut i: usize = 0;
+    while i < counts.len() {
+        if 0 < i {
+            text(b" ");
+        }
+        number(wide(counts[i]));
+        i += 1;
+    }
+}
+
+// One of two texts.
+fn either<'a>(first_one: bool, one: &'a [u8], other: &'a [u8]) {
+    if first_one {
+        text(one);
+    } else {
+        text(other);
+    }
+}
+
+// The marking that a replay reached, with a count for each place: the tokens of the system, then those of the pattern.
+fn marking(done: Replayed, net: Net, pattern_net: PatternNet) {
+    let system = done.system;
+    let pattern = done.pattern;
+    tokens(first(&system, wide(net.places)));
+    text(b" | ");
+    tokens(first(&pattern, wide(pattern_net.places)));
+}
+
+// Why a replay stopped; a refusal has a line of its own.
+fn reason(stop: Stop) {
+    match stop {
+        Stop::RunEnded => {
+            text(b"run ended");
+        }
+        Stop::BudgetSpent => {
+            text(b"budget spent");
+        }
+        Stop::NotFirable => {
+            text(b"not firable");
+        }
+        Stop::CapPassed => {
+            text(b"cap passed");
+        }
+        Stop::Refused(_, _) => {}
+    }
+}
+
+// A replay that was made: how many it fired, the marking with a text before it, whether that is final, why it stopped, and whether the run
+// explains the log, with a text between them.
+fn made<'a>(
+    done: Replayed,
+    net: Net,
+    pattern_net: PatternNet,
+    before_marking: &'a [u8],
+    between: &'a [u8],
+) {
+    text(b"fired ");
+    number(done.fired);
+    text(between);
+    text(before_marking);
+    marking(done, net, pattern_net);
+    text(between);
+    either(done.matches, b"final", b"not final");
+    text(between);
+    let stop = done.stop;
+    reason(stop);
+    text(between);
+    either(done.explains, b"explains", b"no");
+    line_end();
+}
+
+// A replay of a case with these nets; or a line for its refusal.
+pub fn replayed<'a>(
+    done: Replayed,
+    net: Net,
+    pattern_net: PatternNet,
+    before_marking: &'a [u8],
+    between: &'a [u8],
+) {
+    let stop = done.stop;
+    match stop {
+        Stop::Refused(number_of, beside) => {
+            refused(number_of, beside);
+        }
+        _ => {
+            made(done, net, pattern_net, before_marking, between);
+        }
     }
 }
