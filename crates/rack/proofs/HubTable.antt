@@ -165,7 +165,22 @@ slips-computed = tt
 pub every-slip-told : AllHold slipTable
 every-slip-told = all-of slipTable slips-computed
 
+-- ---- H4's case by itself: its file reads as it, and its nets pass the checks 3 to 9
+
+abbrev pub h4 : Case
+h4 = hub [] [] (0 ∷ 3 ∷ [])
+
+h4-computed : T (readTest h4 (parse 200 (bytesOf h4) 9 zeroCase 0) && allOf (acceptTests h4))
+unfolding meaning
+h4-computed = tt
+
+pub h4-reads : ReadsAs (bytesOf h4) h4
+h4-reads = read-of h4 (parse 200 (bytesOf h4) 9 zeroCase 0) refl (and-left (readTest h4 (parse 200 (bytesOf h4) 9 zeroCase 0)) (allOf (acceptTests h4)) h4-computed)
+
+pub h4-passes : NetsPass h4
+h4-passes = passes-of h4 (and-right (readTest h4 (parse 200 (bytesOf h4) 9 zeroCase 0)) (allOf (acceptTests h4)) h4-computed)
+
 -- "With log 0 3 the file has 83 bytes."
-pub hub-file-long : length (bytesOf (hub [] [] (0 ∷ 3 ∷ []))) ≡ 83
+pub hub-file-long : length (bytesOf h4) ≡ 83
 unfolding meaning
 hub-file-long = refl
