@@ -3,8 +3,10 @@
 //! from 01 alone and by plain means (vectors, sets, searches over the whole
 //! graph), so that a slip on either side shows as a difference in the answers.
 
+pub mod answers;
 pub mod case;
 pub mod checks;
+pub mod compare;
 pub mod corpus;
 pub mod judge;
 pub mod known;

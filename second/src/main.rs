@@ -6,17 +6,16 @@ use std::io::{self, BufWriter, Read, Write};
 use std::path::PathBuf;
 use std::process::ExitCode;
 
-use second::case::{self, KEPT_BYTES, LONGEST_FILE};
-use second::checks;
+use second::answers;
+use second::case::KEPT_BYTES;
+use second::compare;
 use second::corpus::{self, Corpus};
-use second::judge::{self, Listing, Rooms, LEAST_WORK_ROOM, MOST_LIMIT, RUN_ROOM};
 use second::make;
-use second::replay;
-use second::Slips;
 
 const USAGE: &str = "usage: second verdict | list LIMIT | next LIMIT [after N ...] \
                      | replay BUDGET N ... | rewrite | checks | make SEED COUNT DIR \
-                     | corpus files|checks|verdicts|listings|replays DIR";
+                     | corpus files|checks|verdicts|listings|replays DIR \
+                     | compare SEED COUNT DIR";
 
 enum Command {
     Verdict,
@@ -42,6 +41,11 @@ enum Command {
         kind: corpus::Kind,
         folder: PathBuf,
     },
+    Compare {
+        seed: u64,
+        count: u64,
+        folder: PathBuf,
+    },
 }
 
 fn main() -> ExitCode {
@@ -51,7 +55,7 @@ fn main() -> ExitCode {
         return ExitCode::from(2);
     };
     match perform(&command) {
-        Ok(()) => ExitCode::SUCCESS,
+        Ok(code) => code,
         Err(error) => {
             eprintln!("second: {error}");
             ExitCode::FAILURE
@@ -92,6 +96,11 @@ fn parse(arguments: &[OsString]) -> Option<Command> {
             kind: corpus::Kind::named(kind.to_str()?)?,
             folder: PathBuf::from(folder),
         }),
+        ("compare", [seed, count, folder]) => Some(Command::Compare {
+            seed: number(seed)?,
+            count: number(count)?,
+            folder: PathBuf::from(folder),
+        }),
         _ => None,
     }
 }
@@ -112,66 +121,19 @@ fn run_numbers(texts: &[OsString]) -> Option<Vec<u8>> {
         .collect()
 }
 
-fn perform(command: &Command) -> io::Result<()> {
+fn perform(command: &Command) -> io::Result<ExitCode> {
     let mut out = BufWriter::new(io::stdout().lock());
-    let slips = Slips::default();
     match command {
-        Command::Verdict => {
-            let rooms = Rooms {
-                work: LEAST_WORK_ROOM,
-                matching: RUN_ROOM,
-                other: RUN_ROOM,
-            };
-            match judge::verdict(&read_input()?, rooms, &slips) {
-                Err(refusal) => writeln!(out, "{refusal}")?,
-                Ok(verdict) => {
-                    writeln!(out, "{}", verdict.kind)?;
-                    for one in verdict.shown() {
-                        writeln!(out, "{one}")?;
-                    }
-                }
-            }
-        }
-        Command::List { limit } => {
-            match Listing::open(&read_input()?, LEAST_WORK_ROOM, *limit, &slips) {
-                Err(refusal) => writeln!(out, "{refusal}")?,
-                Ok(listing) => {
-                    for one in listing.all() {
-                        writeln!(out, "{one}")?;
-                    }
-                    writeln!(out, "end")?;
-                }
-            }
-        }
+        Command::Verdict => out.write_all(&answers::verdict(&read_input()?))?,
+        Command::List { limit } => out.write_all(&answers::list(&read_input()?, *limit))?,
         Command::Next { limit, after } => {
-            let listing = Listing::open(&read_input()?, LEAST_WORK_ROOM, *limit, &slips);
-            match listing.and_then(|open| open.next(after.as_deref(), MOST_LIMIT as usize)) {
-                Err(refusal) => writeln!(out, "{refusal}")?,
-                Ok(None) => writeln!(out, "end")?,
-                Ok(Some(one)) => writeln!(out, "{one}")?,
-            }
+            out.write_all(&answers::next(&read_input()?, *limit, after.as_deref()))?;
         }
         Command::Replay { budget, run } => {
-            match replay::replay(&read_input()?, run, *budget, &slips) {
-                Err(refusal) => writeln!(out, "{refusal}")?,
-                Ok(done) => {
-                    let [fired, system, pattern, is_final, stop, explains] = done.words();
-                    writeln!(out, "{fired}\nmarking {system} | {pattern}")?;
-                    writeln!(out, "{is_final}\n{stop}\n{explains}")?;
-                }
-            }
+            out.write_all(&answers::replay(&read_input()?, *budget, run))?;
         }
-        Command::Rewrite => {
-            let case = case::read(&read_input()?);
-            match case.and_then(|case| case::write(&case, LONGEST_FILE)) {
-                Err(refusal) => writeln!(out, "{refusal}")?,
-                Ok(file) => out.write_all(&file)?,
-            }
-        }
-        Command::Checks => match checks::up_to_nine(&read_input()?, &slips) {
-            Err(refusal) => writeln!(out, "{refusal}")?,
-            Ok((_, product)) => writeln!(out, "accepted {}", product.markings.len())?,
-        },
+        Command::Rewrite => out.write_all(&answers::rewrite(&read_input()?))?,
+        Command::Checks => out.write_all(&answers::checks(&read_input()?))?,
         Command::Make {
             seed,
             count,
@@ -191,8 +153,30 @@ fn perform(command: &Command) -> io::Result<()> {
             std::fs::write(folder.join("corpus"), made.entries)?;
             std::fs::write(folder.join("expected"), made.expected)?;
         }
+        Command::Compare {
+            seed,
+            count,
+            folder,
+        } => {
+            let done = compare::compare(*seed, *count, folder)?;
+            for one in &done.differences {
+                writeln!(out, "case {}: {}", one.index, one.call)?;
+                writeln!(out, "  program: {}", String::from_utf8_lossy(&one.program))?;
+                writeln!(out, "  second:  {}", String::from_utf8_lossy(&one.second))?;
+            }
+            let (answers, differences) = (done.answers, done.differences.len());
+            writeln!(
+                out,
+                "{count} cases, {answers} answers, {differences} differences"
+            )?;
+            if differences > 0 {
+                out.flush()?;
+                return Ok(ExitCode::FAILURE);
+            }
+        }
     }
-    out.flush()
+    out.flush()?;
+    Ok(ExitCode::SUCCESS)
 }
 
 /// Keeps the first bytes and reads on to the end, so that whoever writes into
