@@ -4,6 +4,7 @@
 //! graph), so that a slip on either side shows as a difference in the answers.
 
 pub mod answers;
+pub mod bench;
 pub mod case;
 pub mod checks;
 pub mod compare;

@@ -7,7 +7,8 @@ use std::path::PathBuf;
 use std::process::ExitCode;
 
 use second::answers;
-use second::case::KEPT_BYTES;
+use second::bench::Bench;
+use second::case::{self, KEPT_BYTES};
 use second::compare;
 use second::corpus::{self, Corpus};
 use second::make;
@@ -15,7 +16,7 @@ use second::make;
 const USAGE: &str = "usage: second verdict | list LIMIT | next LIMIT [after N ...] \
                      | replay BUDGET N ... | rewrite | checks | make SEED COUNT DIR \
                      | corpus files|checks|verdicts|listings|replays DIR \
-                     | compare SEED COUNT DIR";
+                     | compare SEED COUNT DIR | bench worst|deep LINES | bench long|hub|maze";
 
 enum Command {
     Verdict,
@@ -46,6 +47,7 @@ enum Command {
         count: u64,
         folder: PathBuf,
     },
+    Bench(Bench),
 }
 
 fn main() -> ExitCode {
@@ -101,6 +103,10 @@ fn parse(arguments: &[OsString]) -> Option<Command> {
             count: number(count)?,
             folder: PathBuf::from(folder),
         }),
+        ("bench", [name]) => Bench::named(name.to_str()?, None).map(Command::Bench),
+        ("bench", [name, lines]) => {
+            Bench::named(name.to_str()?, Some(number(lines)?)).map(Command::Bench)
+        }
         _ => None,
     }
 }
@@ -153,6 +159,7 @@ fn perform(command: &Command) -> io::Result<ExitCode> {
             std::fs::write(folder.join("corpus"), made.entries)?;
             std::fs::write(folder.join("expected"), made.expected)?;
         }
+        Command::Bench(which) => out.write_all(&case::bytes(&which.case()))?,
         Command::Compare {
             seed,
             count,

@@ -4,6 +4,7 @@ use std::io::Write;
 use std::path::PathBuf;
 use std::process::{Command, Output, Stdio};
 
+use second::bench;
 use second::case;
 use second::corpus::{Corpus, Kind};
 use second::known::{counter_case, hub, hub_case, longest};
@@ -189,8 +190,16 @@ fn making_corpora() {
 }
 
 #[test]
+fn named_cases() {
+    assert_eq!(call(&["bench", "hub"], &[]).stdout, hub_file(&[0, 3]));
+    let worst = case::bytes(&bench::worst(24));
+    assert_eq!(call(&["bench", "worst", "24"], &[]).stdout, worst);
+    prints(&["checks"], &worst, "accepted 512\n");
+}
+
+#[test]
 fn wrong_calls() {
-    let wrong: [&[&str]; 28] = [
+    let wrong: [&[&str]; 33] = [
         &[],
         &[""],
         &["help"],
@@ -219,6 +228,11 @@ fn wrong_calls() {
         &["corpus", "files"],
         &["corpus", "file", "folder"],
         &["corpus", "files", "folder", "more"],
+        &["bench"],
+        &["bench", "worst"],
+        &["bench", "worst", "41"],
+        &["bench", "hub", "4"],
+        &["bench", "worst", "4", "4"],
     ];
     for arguments in wrong {
         let output = call(arguments, &hub_file(&[]));
