@@ -1,5 +1,5 @@
 // Reads a corpus: cases one after the other in a file, each with its length in three bytes before it, the low byte first, and sometimes
-// numbers of two or three bytes before that. The second program writes corpora, and what it says of each case.
+// numbers of one, two or three bytes before that. The second program writes corpora, and what it says of each case.
 ghost use Prim.Native.Nat.{_≤_, _<_};
 ghost use lib.ListN.{length};
 ghost use Rattle.corpus.specs.Takes.{TakenSays};
@@ -26,6 +26,15 @@ fn wide(x: u8) -> usize
 // Opens the corpus of the program that is run.
 pub fn open() -> i32 {
     os::open_read(b"corpus")
+}
+
+// A number of one byte.
+pub fn one(fd: i32) -> Read {
+    let mut bytes = [0u8; 1];
+    if io::read_full(fd, &mut bytes) < 1 {
+        return Read::End;
+    }
+    Read::Number(wide(bytes[0]))
 }
 
 // A number of two bytes.

@@ -108,13 +108,7 @@ fn three(fd: i32) -> usize {
 }
 
 // Takes the next entry, and answers whether there was one.
-fn next(
-    fd: i32,
-    file: &mut [u8],
-    matching: &mut [u8],
-    other: &mut [u8],
-    work: &mut [u8],
-) -> bool {
+fn next(fd: i32, file: &mut [u8], matching: &mut [u8], other: &mut [u8], work: &mut [u8]) -> bool {
     let m = two(fd);
     if m == 100000 {
         return false;
@@ -125,13 +119,7 @@ fn next(
 }
 
 // Takes every entry, up to a hundred thousand.
-fn all(
-    fd: i32,
-    file: &mut [u8],
-    matching: &mut [u8],
-    other: &mut [u8],
-    work: &mut [u8],
-) {
+fn all(fd: i32, file: &mut [u8], matching: &mut [u8], other: &mut [u8], work: &mut [u8]) {
     let mut turns: usize = 100000;
     while 0 < turns {
         if !next(fd, file, matching, other, work) {

@@ -1,9 +1,9 @@
 // The listing of explanations: the calls `first` and `next`, over every file and every length of room. They admit the case (checks 1, 12 and 2 to 9),
 // look at the given run (13), work out what can still be finished in so many firings, and give the next explanation by a depth-first search.
 // What their answers mean stands in rack's specs/ListingOutcome.antt.
-use admit::Answer;
 use crate::giving::give;
 use crate::giving::is_good;
+use admit::Answer;
 use rack::Case;
 use rack::Listed;
 ghost use mathlib.Core.Path.{_≡_};

@@ -2,18 +2,12 @@
 // fired, the marking then reached, whether that is final, why it stopped, and whether the run explains the log, each on a line; or one line
 // that says why it is refused. It keeps one byte more than the longest file has. BUDGET is 0 to 65535 and each N 0 to 255, in at most 32
 // decimal digits; there are at most 65,536 of the N, which is more than any budget. Any other call gets one line on standard error.
+use arguments::Spelled;
+use arguments::argument;
 use libc::STDERR_FILENO;
 use libc::STDIN_FILENO;
-ghost use mathlib.Core.Path.{_≡_};
 ghost use Prim.Native.Nat.{_≤_};
 ghost use lib.ListN.{length};
-ghost use Rattle.replay.specs.Numbers.{spelled, NumberSays};
-
-// The number that an argument spells, or none that is asked for.
-enum Spelled {
-    Number(usize),
-    Nothing,
-}
 
 // How to call the program.
 fn usage() {
@@ -21,50 +15,6 @@ fn usage() {
         STDERR_FILENO,
         b"usage: replay BUDGET N .., with a case file on standard input; BUDGET 0 to 65535, each N 0 to 255, at most 65536 of them\n",
     );
-}
-
-// A byte as a number.
-fn wide(x: u8) -> usize
-    ensures { λ r. ⌜ r ≡ x ⌝ }
-{
-    x as usize
-}
-
-// The number that decimal digits spell, if there is any and it is at most `most`.
-fn number(digits: &[u8], most: usize) -> Spelled
-    requires { ⌜ most ≤ 65535 ⌝ }
-    ensures { λ r. ⌜ r ≡ spelled (now (digits .entry)) most ⌝ }
-{
-    if digits.len() == 0 {
-        return Spelled::Nothing;
-    }
-    let mut value: usize = 0;
-    let mut i: usize = 0;
-    while i < digits.len() {
-        let digit = wide(digits[i]);
-        if digit < 48 {
-            return Spelled::Nothing;
-        }
-        if 57 < digit {
-            return Spelled::Nothing;
-        }
-        value = value * 10 + (digit - 48);
-        if most < value {
-            return Spelled::Nothing;
-        }
-        i += 1;
-    }
-    Spelled::Number(value)
-}
-
-// The number that argument i spells, if there is that argument and it spells one that is at most `most`.
-fn argument(i: usize, most: usize) -> Spelled
-    requires { ⌜ most ≤ 65535 ⌝ }
-    ensures { λ r. ⌜ NumberSays most r ⌝ }
-{
-    let mut digits = [0u8; 32];
-    let n = os::arg(i, &mut digits);
-    number(&digits[..n], most)
 }
 
 // Puts the numbers of the arguments from the second on at the front of run, count of them, and answers whether each is one.

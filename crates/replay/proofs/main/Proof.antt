@@ -1,5 +1,5 @@
 -- `replay::main` is safe and ends. Assumes nothing.
-use Rattle.replay.proofs.Spelling.{number-small}
+use Rattle.arguments.proofs.Spelling.{number-small}
 use native.Mathlib.Omega.{arith}
 use borrow.Author.Needs.{needs}
 use Rattle.replay.proofs.main.Statement.{statement}

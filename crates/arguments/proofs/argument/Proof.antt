@@ -1,8 +1,8 @@
--- `replay::argument` meets its contract. Assumes nothing.
-use Rattle.replay.proofs.Spelling.{says-small}
+-- `arguments::argument` meets its contract. Assumes nothing.
+use Rattle.arguments.proofs.Spelling.{says-small}
 use borrow.Author.Needs.{needs}
-use Rattle.replay.proofs.argument.Statement.{statement}
-use Rattle.replay.proofs.argument.Tie as tie
+use Rattle.arguments.proofs.argument.Statement.{statement}
+use Rattle.arguments.proofs.argument.Tie as tie
 
 slice-aggregate-arg : tie.Need-slice-aggregate-arg
 slice-aggregate-arg c = search needs

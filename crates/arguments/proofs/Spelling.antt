@@ -1,5 +1,5 @@
 -- How the reading of digits stands, and what it comes to. Assumes nothing.
-use Prim.Native.Nat.{ℕ, _+_, _*_, _-_, _≤_, _<_}
+use Prim.Native.Nat.{ℕ, _+_, _*_, _-_, _/_, _≤_, _<_}
 use mathlib.Core.Path.{_≡_, refl, sym, ap, _∙_, subst}
 use mathlib.Core.Bool.{Bool, true, false, _&&_, and-false}
 use mathlib.Core.List.{List, [], _∷_}
@@ -10,9 +10,9 @@ use lib.ListN.{length, getD, drop, drop-of-length-le}
 use lib.Seq.{drop-cons}
 use lib.Dec.{leb, ltb}
 use Rattle.walks.specs.Below.{pick, every}
-use Rattle.replay.specs.Numbers.{isDigit, valueFrom, spelled, NumberSays}
-use Rattle.replay.specs.declared.Spelled.{Spelled}
-use Rattle.replay.specs.declared.Spelled.the-variants.{Number, Nothing}
+use Rattle.arguments.specs.Numbers.{isDigit, valueFrom, spelled, NumberSays}
+use Rattle.arguments.specs.declared.Spelled.{Spelled}
+use Rattle.arguments.specs.declared.Spelled.the-variants.{Number, Nothing}
 
 -- after i digits, which spell v
 pub record Spelling (l : List ℕ) (most v i : ℕ) : Type 0 where
@@ -36,6 +36,15 @@ module _ (d : ℕ) where
   unfolding isDigit
   a-digit a b = rw (le-leb 48 d a, le-leb d 57 b)
 
+-- ---- the test before the product
+
+module _ {most v u : ℕ} (m : u ≤ most) where
+  pub fits : v ≤ (most - u) / 10 → v * 10 + u ≤ most
+  fits q = omega (arith, m, q)
+
+  passes : (most - u) / 10 < v → most < v * 10 + u
+  passes q = omega (arith, m, q)
+
 -- ---- the reading
 
 pub spelling-start : (l : List ℕ) (most : ℕ) → Spelling l most 0 0
@@ -55,9 +64,9 @@ module _ {l : List ℕ} {most v i d : ℕ} (s : Spelling l most v i) (h : i < le
   unfolding valueFrom
   step-value = s .value ∙ ap (valueFrom v) next
 
-  pub spelling-more : 48 ≤ d → d ≤ 57 → v * 10 + (d - 48) ≤ most → Spelling l most (v * 10 + (d - 48)) (i + 1)
+  pub spelling-more : 48 ≤ d → d ≤ 57 → d - 48 ≤ most → v ≤ (most - (d - 48)) / 10 → Spelling l most (v * 10 + (d - 48)) (i + 1)
   unfolding every
-  spelling-more a b m = record { low = omega arith; small = m; digits = s .digits ∙ ap (every isDigit) next ∙ rw (a-digit d a b); value = step-value }
+  spelling-more a b m q = record { low = omega arith; small = fits m q; digits = s .digits ∙ ap (every isDigit) next ∙ rw (a-digit d a b); value = step-value }
 
   other : isDigit d ≡ false → Nothing ≡ spelled l most
   unfolding spelled every
@@ -69,10 +78,16 @@ module _ {l : List ℕ} {most v i d : ℕ} (s : Spelling l most v i) (h : i < le
   pub spells-above : 57 < d → Nothing ≡ spelled l most
   spells-above b = other (above-digits d b)
 
-  -- a number that is too large already
-  pub spells-much : most < v * 10 + (d - 48) → Nothing ≡ spelled l most
+  -- a number that is too large already, by its last digit alone or with those before it
+  much : most < v * 10 + (d - 48) → Nothing ≡ spelled l most
   unfolding spelled
-  spells-much b = rw (lt-leb (valueFrom 0 l) most (omega (arith, step-value, grows (drop (i + 1) l) (v * 10 + (d - 48)), b)), and-false, and-false)
+  much b = rw (lt-leb (valueFrom 0 l) most (omega (arith, step-value, grows (drop (i + 1) l) (v * 10 + (d - 48)), b)), and-false, and-false)
+
+  pub spells-over : most < d - 48 → Nothing ≡ spelled l most
+  spells-over b = much (omega (arith, b))
+
+  pub spells-much : d - 48 ≤ most → (most - (d - 48)) / 10 < v → Nothing ≡ spelled l most
+  spells-much m b = much (passes m b)
 
 pub spells-none : (l : List ℕ) (most : ℕ) → length l ≡ 0 → Nothing ≡ spelled l most
 unfolding spelled

@@ -6,8 +6,8 @@ use mathlib.Core.List.{List, [], _∷_}
 use lib.ListN.{length}
 use lib.Dec.{leb, ltb}
 use Rattle.walks.specs.Below.{pick, every}
-use Rattle.replay.specs.declared.Spelled.{Spelled}
-use Rattle.replay.specs.declared.Spelled.the-variants.{Number, Nothing}
+use Rattle.arguments.specs.declared.Spelled.{Spelled}
+use Rattle.arguments.specs.declared.Spelled.the-variants.{Number, Nothing}
 
 -- the ASCII digits are 48 to 57
 unfoldable pub isDigit : ℕ → Bool
