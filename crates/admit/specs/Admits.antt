@@ -1,10 +1,9 @@
--- What admitting a case answers: the table of its reachable product markings where none of the checks 2 to 9 speaks, else the first that does.
+-- What the checks 3 to 9 of a case answer: the table of its reachable product markings where none of them speaks, else the first that does.
 -- Assumes nothing.
 use Prim.Native.Nat.{ℕ}
 use mathlib.Core.Path.{_≡_}
 use mathlib.Core.List.{List}
 use lib.ListN.{length}
-use Rattle.rack.specs.Layout.{ReadsAs, BreaksAt}
 use Rattle.rack.specs.WellFormed.{WellFormed}
 use Rattle.rack.specs.Refusal.{NetsPass}
 use Rattle.rack.specs.NetChecks.{NetRefuses, NetAccepts, patternOrder, productOrder}
@@ -12,7 +11,6 @@ use Rattle.rack.specs.declared.Case.{Case}
 use Rattle.reach.specs.Table.{TableOf}
 use Rattle.admit.specs.declared.Answer.{Answer}
 use Rattle.admit.specs.declared.Answer.the-variants.{Table, Refused}
-use Rattle.admit.specs.declared.Admitted.{Admitted}
 
 -- the first of 3 to 9 that speaks of a case
 pub data NetsRefuse (c : Case) : ℕ → ℕ → Type 0 where
@@ -33,12 +31,3 @@ AnswerSays c room (Refused n m) = NetsRefuse c n m
 pub record CaseSays (c : Case) (room₀ room : List ℕ) (r : Answer) : Type 0 where
   pub long : length room ≡ length room₀
   pub answer : AnswerSays c room r
-
--- the checks 2 to 9 of a file: it breaks the layout, or reads as a case
-pub data FileSays (f room : List ℕ) : Admitted → Type 0 where
-  broken : {p : ℕ} {c : Case} → BreaksAt f p → FileSays f room (record { answer = Refused 2 p; case = c })
-  read : {c : Case} {r : Answer} → ReadsAs f c → AnswerSays c room r → FileSays f room (record { answer = r; case = c })
-
-pub record AdmitSays (f room₀ room : List ℕ) (r : Admitted) : Type 0 where
-  pub long : length room ≡ length room₀
-  pub file : FileSays f room r

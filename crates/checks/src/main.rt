@@ -2,13 +2,19 @@
 // reachable product markings. It keeps one byte more than the longest file has.
 use admit::Answer;
 use libc::STDIN_FILENO;
+use rack::Outcome;
 
 fn main() {
     let mut file = [0u8; 2497];
     let mut work = [0u8; 57344];
     let n = io::read_full(STDIN_FILENO, &mut file);
-    let admitted = admit::admit(&file[..n], &mut work);
-    let answer = admitted.answer;
+    let reading = reader::read_case(&file[..n]);
+    let outcome = reading.outcome;
+    if let Outcome::Refused(number, place) = outcome {
+        report::refused(number, place);
+        return;
+    }
+    let answer = admit::check(reading.case, &mut work);
     match answer {
         Answer::Table(rows) => {
             report::text(b"accepted ");

@@ -2,6 +2,7 @@
 // in between: what it holds must not matter.
 use admit::Answer;
 use corpus::Taken;
+use rack::Outcome;
 ghost use Prim.Native.Nat.{_≤_};
 ghost use lib.ListN.{length};
 
@@ -9,8 +10,13 @@ ghost use lib.ListN.{length};
 fn answer(file: &[u8], work: &mut [u8])
     requires { ⌜ 57344 ≤ length (now work) ⌝ }
 {
-    let admitted = admit::admit(file, work);
-    let answer = admitted.answer;
+    let reading = reader::read_case(file);
+    let outcome = reading.outcome;
+    if let Outcome::Refused(number, place) = outcome {
+        report::refused(number, place);
+        return;
+    }
+    let answer = admit::check(reading.case, work);
     match answer {
         Answer::Table(rows) => {
             report::text(b"accepted ");

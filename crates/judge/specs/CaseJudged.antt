@@ -3,13 +3,12 @@
 -- Assumes nothing.
 use Prim.Native.Nat.{ℕ, _<_, _≤_}
 use mathlib.Core.Bool.{true, false}
-use mathlib.Core.List.{List, _++_}
+use mathlib.Core.List.{List}
 use lib.ListN.{length}
 use Rattle.rack.specs.Verdict.{FirstOfKind, NoneExplains, IsFaulty, IsSafe, IsAmbiguous}
 use Rattle.rack.specs.Refusal.{NetsPass}
 use Rattle.rack.specs.NetChecks.{NetRefuses, NetAccepts, patternOrder, productOrder}
-use mathlib.Core.Path.{_≡_}
-use Rattle.rack.specs.Outcome.{holding, zeroed}
+use Rattle.rack.specs.Outcome.{holding}
 use Rattle.rack.specs.declared.Case.{Case}
 use Rattle.rack.specs.declared.Judged.{Judged}
 use Rattle.rack.specs.declared.Verdict.the-variants as Verdict
@@ -36,8 +35,3 @@ pub data CaseJudged (c : Case) (matching other : List ℕ) : Judged → List ℕ
   pattern-refused : {n : ℕ} → NetRefuses c patternOrder n → CaseJudged c matching other (refusedBy n 0) matching other
   product-refused : {n : ℕ} → NetAccepts c patternOrder → NetRefuses c productOrder n → CaseJudged c matching other (refusedBy n 0) matching other
   shown : {x : Judged} {a b : List ℕ} → NetsPass c → Shown c matching other x a b → CaseJudged c matching other x a b
-
--- the verdict on a case that passes the checks 2 to 9, and the work room all zeros after it
-pub record JudgedSays (c : Case) (matching other work : List ℕ) (x : Judged) (a b w : List ℕ) : Type 0 where
-  pub shows : Shown c matching other x a b
-  pub cleared : w ≡ zeroed work

@@ -1,18 +1,19 @@
-// The verdict on a rack log: the call `judge`, over every file and every length of room. It admits the case (checks 1 to 9), searches the nodes that runs
-// keeping to the log can be in, and shows the first explanation of each kind. What its answers mean stands in rack's specs/VerdictOutcome.antt.
+// The verdict on a rack log: the call `judge`, over every file and every length of room. It reads the file and admits its case (checks 1 to 9), searches
+// the nodes that runs keeping to the log can be in, and shows the first explanation of each kind. What its answers mean stands in rack's
+// specs/VerdictOutcome.antt.
 use admit::Answer;
 use rack::Case;
 use rack::Judged;
+use rack::Outcome;
 use rack::Verdict;
 use search::Place;
 ghost use mathlib.Core.Path.{_≡_};
 ghost use mathlib.Core.Bool.{true, false};
 ghost use mathlib.Core.List.{List};
-ghost use Prim.Native.Nat.{ℕ, _≤_};
-ghost use lib.ListN.{length};
+ghost use Prim.Native.Nat.{ℕ};
 ghost use Rattle.rack.specs.VerdictOutcome.{VerdictIs};
 ghost use Rattle.search.specs.Found.{Ready};
-ghost use Rattle.judge.specs.CaseJudged.{refusedBy, Shown, JudgedSays};
+ghost use Rattle.judge.specs.CaseJudged.{refusedBy, Shown};
 ghost use Rattle.judge.specs.Kinds.{KindAt, NoneOfKind, KindSays};
 
 // The answer of a refusal: its number and the number beside it, and no run shown.
@@ -124,28 +125,9 @@ fn show<'r, 'm, 'o>(
     }
 }
 
-// The verdict on a case that passes the checks 2 to 9, whose reachable markings are the first rows of the work room.
-fn judge_case<'m, 'o>(
-    c: Case,
-    rows: usize,
-    matching: &'m mut [u8],
-    other: &'o mut [u8],
-    work: &mut [u8],
-) -> Judged
-    requires { ⌜ Ready c (now work) rows ⌝ }
-    ensures { λ r. ⌜ JudgedSays c (now (matching .entry)) (now (other .entry)) (now (work .entry)) r (now (matching .exit)) (now (other .exit)) (now (work .exit)) ⌝ }
-{
-    let found = search::search(c, work, rows);
-    let met = found.met;
-    let first = found.matching;
-    let second = found.other;
-    let judged = show(c, rows, met, first, second, matching, other, work);
-    room::clear(work);
-    judged
-}
-
 // The verdict on a case file. The run that is shown of each kind is written to the front of its room, one byte for each firing, and nothing
-// else in the two rooms changes; a refusal changes neither. The work room is all zeros afterwards, however long it is.
+// else in the two rooms changes; a refusal changes neither. The work room is all zeros afterwards, however long it is. The case stays in the reading from
+// end to end: a function between this one and the search would keep a copy of it.
 pub fn judge(file: &[u8], matching: &mut [u8], other: &mut [u8], work: &mut [u8]) -> Judged
     ensures { λ r. ⌜ VerdictIs (now (file .entry)) (now (matching .entry)) (now (other .entry)) (now (work .entry)) r (now (matching .exit)) (now (other .exit)) (now (work .exit)) ⌝ }
 {
@@ -153,14 +135,35 @@ pub fn judge(file: &[u8], matching: &mut [u8], other: &mut [u8], work: &mut [u8]
         room::clear(work);
         return refused(1, 0);
     }
-    let admitted = admit::admit(file, work);
-    let answer = admitted.answer;
-    let case = admitted.case;
+    let reading = reader::read_case(file);
+    let outcome = reading.outcome;
+    if let Outcome::Refused(number, place) = outcome {
+        room::clear(work);
+        return refused(number, place);
+    }
+    let answer = admit::check(reading.case, work);
     match answer {
         Answer::Refused(number, beside) => {
             room::clear(work);
             refused(number, beside)
         }
-        Answer::Table(rows) => judge_case(case, rows, matching, other, work),
+        Answer::Table(rows) => {
+            let found = search::search(reading.case, work, rows);
+            let met = found.met;
+            let first = found.matching;
+            let second = found.other;
+            let judged = show(
+                reading.case,
+                rows,
+                met,
+                first,
+                second,
+                matching,
+                other,
+                work,
+            );
+            room::clear(work);
+            judged
+        }
     }
 }

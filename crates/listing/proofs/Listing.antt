@@ -1,31 +1,24 @@
 -- From the listing of a case that has been read to the outcome of the call on its file. Assumes nothing.
 use Prim.Native.Nat.{ℕ, _<_, _≤_}
-use mathlib.Core.Path.{_≡_, refl, sym, ap, _∙_, subst}
-use mathlib.Core.Bool.{Bool, true, false}
+use mathlib.Core.Path.{refl, sym, subst}
 use mathlib.Core.List.{List, [], _∷_, _++_}
-use native.Mathlib.Omega.{arith}
-use lib.ListN.{length, replicate}
-use Rattle.rack.specs.Listing.{Asked, NextIs, EndIs}
-use Rattle.rack.specs.Run.{Explains}
+use lib.ListN.{length}
+use Rattle.rack.specs.Listing.{Asked, NextIs}
 use Rattle.rack.specs.Layout.{ReadsAs, BreaksAt}
-use Rattle.rack.specs.Refusal.{workRoom, NetsPass, GivenBad, Question, Speaks, Silent, FirstToSpeak, speaks, rests, work-room, limit, layout, given-run, lent-room, listingOrder}
-use Rattle.rack.specs.NetChecks.{NetRefuses, NetAccepts, patternOrder, productOrder}
+use Rattle.rack.specs.Refusal.{workRoom, NetsPass, GivenBad, Question, Speaks, Silent, FirstToSpeak, speaks, rests, work-room, limit, layout, given-run, lent-room}
+use Rattle.rack.specs.NetChecks.{patternOrder, productOrder}
 use Rattle.rack.specs.Outcome.{zeroed}
 use Rattle.rack.specs.ListingOutcome.{ofListing, NextShort, NextFits, ListingIs}
 use Rattle.rack.specs.ListingOutcome as outcome
 use Rattle.rack.specs.declared.Case.{Case}
 use Rattle.rack.specs.declared.Listed.{Listed}
-use Rattle.rack.specs.declared.Listed.the-variants.{Refused, End}
+use Rattle.rack.specs.declared.Listed.the-variants.{Refused}
 use Rattle.rack.proofs.OneReading.{one-case}
 use Rattle.rack.proofs.OneFirst.{next-one}
 use Rattle.rack.proofs.Lift.{layout-rests, lift-refuses, lift-on, passes-accept}
 use Rattle.rack.proofs.Answer.{listing-accepts, answer-end}
-use Rattle.admit.specs.Admits.{NetsRefuse, of-pattern, of-product, Passes, AnswerSays, FileSays, broken, read, AdmitSays}
-use Rattle.admit.specs.declared.Answer.the-variants.{Table}
-use Rattle.admit.specs.declared.Answer.the-variants as admitted
-use Rattle.admit.specs.declared.Admitted.{Admitted}
-use Rattle.search.specs.Found.{Ready}
-use Rattle.listing.specs.CaseListed.{Shown, matching, other, end, short, CaseListed, bad, shown, ListedSays}
+use Rattle.admit.specs.Admits.{NetsRefuse, of-pattern, of-product}
+use Rattle.listing.specs.CaseListed.{Shown, matching, other, end, short, CaseListed, bad, shown}
 
 module _ (f : List ℕ) (most : ℕ) (asked : Asked) (room work : List ℕ) where
   -- 1: the work room is too short

@@ -1,17 +1,15 @@
-// The listing of explanations: the calls `first` and `next`, over every file and every length of room. They admit the case (checks 1, 12 and 2 to 9),
-// look at the given run (13), work out what can still be finished in so many firings, and give the next explanation by a depth-first search.
+// The listing of explanations: the calls `first` and `next`, over every file and every length of room. They read the file and admit its case (checks 1, 12
+// and 2 to 9), look at the given run (13), work out what can still be finished in so many firings, and give the next explanation by a depth-first search.
 // What their answers mean stands in rack's specs/ListingOutcome.antt.
 use crate::giving::give;
 use crate::giving::is_good;
 use admit::Answer;
 use rack::Case;
 use rack::Listed;
+use rack::Outcome;
 ghost use mathlib.Core.Path.{_≡_};
-ghost use Prim.Native.Nat.{_≤_};
-ghost use lib.ListN.{length};
 ghost use Rattle.rack.specs.Listing.{from-start, after};
 ghost use Rattle.rack.specs.ListingOutcome.{ListingIs};
-ghost use Rattle.search.specs.Found.{Ready};
 ghost use Rattle.listing.specs.CaseListed.{Listing, ListedSays};
 
 mod giving; // giving.rt: giving a run that has been found
@@ -84,15 +82,19 @@ pub fn first(file: &[u8], limit: usize, room: &mut [u8], work: &mut [u8]) -> Lis
         room::clear(work);
         return Listed::Refused(12, 0);
     }
-    let admitted = admit::admit(file, work);
-    let answer = admitted.answer;
-    let case = admitted.case;
+    let reading = reader::read_case(file);
+    let outcome = reading.outcome;
+    if let Outcome::Refused(number, place) = outcome {
+        room::clear(work);
+        return Listed::Refused(number, place);
+    }
+    let answer = admit::check(reading.case, work);
     match answer {
         Answer::Refused(number, beside) => {
             room::clear(work);
             Listed::Refused(number, beside)
         }
-        Answer::Table(rows) => first_of(case, rows, limit, room, work),
+        Answer::Table(rows) => first_of(reading.case, rows, limit, room, work),
     }
 }
 
@@ -108,14 +110,18 @@ pub fn next(file: &[u8], limit: usize, given: &[u8], room: &mut [u8], work: &mut
         room::clear(work);
         return Listed::Refused(12, 0);
     }
-    let admitted = admit::admit(file, work);
-    let answer = admitted.answer;
-    let case = admitted.case;
+    let reading = reader::read_case(file);
+    let outcome = reading.outcome;
+    if let Outcome::Refused(number, place) = outcome {
+        room::clear(work);
+        return Listed::Refused(number, place);
+    }
+    let answer = admit::check(reading.case, work);
     match answer {
         Answer::Refused(number, beside) => {
             room::clear(work);
             Listed::Refused(number, beside)
         }
-        Answer::Table(rows) => next_of(case, rows, limit, given, room, work),
+        Answer::Table(rows) => next_of(reading.case, rows, limit, given, room, work),
     }
 }

@@ -63,6 +63,13 @@ start f c e =
       rest = λ x r. subst (λ (z : Case). Reads f 9 z 0 x) e r;
     }
 
+-- a right record of mark m and number i, which ends before n: what is left to do is to add what it says
+pub record Right (f : List ℕ) (c : Case) (a : ℕ) (m : Mark) (i n : ℕ) : Type 0 where
+  pub fields : FieldsAre m c f a
+  pub further : a < n
+  pub inside : n ≤ length f
+  pub turn : {d : Case} → d ≡ added m c f a → SoFar f i d n
+
 module _ {f : List ℕ} {k a : ℕ} {c : Case} (s : SoFar f k c a) where
   -- EN has come, and bytes are left over
   pub left-over : k ≡ 8 → a < length f → BreaksAt f a
@@ -91,25 +98,25 @@ module _ {f : List ℕ} {k a : ℕ} {c : Case} (s : SoFar f k c a) where
           subst (BreaksAt f) (sym (g .1))
           (record { reads = s .rest (broken a) (wrong (λ w. g .0 (subst (λ (m : Mark). FieldsAre m c f a) (sym em) (w .fields))) (λ e _. n e)) })
 
-      pub moves : {n : ℕ} → b ≡ true → r ≡ Good n → (a < n) × (n ≤ length f)
-      moves t e =
-          let g = good ans e in
-          let p = past m c f a (long t) (g .0) in
-          (omega (arith, p .0, g .1), omega (arith, p .1, g .1))
-
-      -- a right record
-      pub turn : {n : ℕ} {d : Case} → b ≡ true → r ≡ Good n → d ≡ added m c f a → i < 10 → SoFar f i d n
-      turn {n} {d} t er ed small =
+      pub right-record : {n : ℕ} → b ≡ true → r ≡ Good n → i < 10 → Right f c a m i n
+      right-record {n} t er small =
           let g = good ans er in
-          let right : RecordIs k c f a = record { follows = sym as-table ∙ t; fields = subst (λ (m : Mark). FieldsAre m c f a) em (g .0) } in
+          let p = past m c f a (long t) (g .0) in
+          let here : RecordIs k c f a = record { follows = sym as-table ∙ t; fields = subst (λ (m : Mark). FieldsAre m c f a) em (g .0) } in
           record {
-            inside = moves t er .1;
-            number = small;
-            rows = subst RowsFit (sym ed) (rows-kept m c f a (g .0) (s .rows));
-            rest = λ e x.
-                s .rest e
-                (next right
-                (subst (λ (x : ℕ). Reads f x (added (markAt f a) c f a) (endAt (markAt f a) c f a) e) (ei ∙ ap numberOf em)
-                (subst (λ (x : Case). Reads f i x (endAt (markAt f a) c f a) e) (ed ∙ ap (λ (m : Mark). added m c f a) em)
-                (subst (λ (x : ℕ). Reads f i d x e) (g .1 ∙ ap (λ (m : Mark). endAt m c f a) em) x))));
+            fields = g .0;
+            further = omega (arith, p .0, g .1);
+            inside = omega (arith, p .1, g .1);
+            turn = λ {d} ed.
+                record {
+                  inside = omega (arith, p .1, g .1);
+                  number = small;
+                  rows = subst RowsFit (sym ed) (rows-kept m c f a (g .0) (s .rows));
+                  rest = λ e x.
+                      s .rest e
+                      (next here
+                      (subst (λ (x : ℕ). Reads f x (added (markAt f a) c f a) (endAt (markAt f a) c f a) e) (ei ∙ ap numberOf em)
+                      (subst (λ (x : Case). Reads f i x (endAt (markAt f a) c f a) e) (ed ∙ ap (λ (m : Mark). added m c f a) em)
+                      (subst (λ (x : ℕ). Reads f i d x e) (g .1 ∙ ap (λ (m : Mark). endAt m c f a) em) x))));
+                };
           }

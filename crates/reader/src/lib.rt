@@ -13,10 +13,18 @@ use marks::NO_MARK;
 use marks::mark_at;
 use marks::may_follow;
 use marks::number_of;
+use rack::Mark;
 use rack::Outcome;
 use rack::Reading;
 use records::read_record;
-use slots::add_record;
+use slots::add_lg;
+use slots::add_nt;
+use slots::add_ob;
+use slots::add_pr;
+use slots::add_pt;
+use slots::add_px;
+use slots::add_qf;
+use slots::add_tr;
 use slots::zero_case;
 ghost use mathlib.Core.Path.{_≡_};
 ghost use Rattle.rack.specs.CaseFileOutcome.{ReaderIs, LogIs};
@@ -38,7 +46,8 @@ fn refused(place: usize) -> Reading
     }
 }
 
-// Reads a file from the left, a record at a time: the case that it holds, or refusal 2 with the place of the first wrong record.
+// Reads a file from the left, a record at a time: the case that it holds, or refusal 2 with the place of the first wrong record. Each record changes
+// its own part of the case where it stands: nothing hands the whole case on, which would keep a copy of it.
 pub fn read_case(file: &[u8]) -> Reading
     ensures { λ r. ⌜ ReaderIs (now (file .entry)) r ⌝ }
 {
@@ -51,16 +60,26 @@ pub fn read_case(file: &[u8]) -> Reading
         if !may_follow(last, next) {
             return refused(at);
         }
-        match read_record(file, at, mark, case) {
-            Read::Good(end) => {
-                case = add_record(file, at, mark, case);
-                last = next;
-                at = end;
-            }
+        let end = match read_record(file, at, mark, case) {
+            Read::Good(end) => end,
             Read::Bad(place) => {
                 return refused(place);
             }
+        };
+        match mark {
+            Mark::Nt => case.net = add_nt(file, at),
+            Mark::Tr => case.arcs = add_tr(case.arcs, file, at),
+            Mark::Pr => case.pairs = add_pr(case.pairs, file, at),
+            Mark::Ob => case.observable = add_ob(file, at),
+            Mark::Pt => case.pattern = add_pt(file, at),
+            Mark::Px => case.links = add_px(case.links, file, at),
+            Mark::Qf => case.bounds = add_qf(case.bounds, file, at, case.pattern.places),
+            Mark::Lg => case.log = add_lg(file, at),
+            Mark::En => {}
+            Mark::Absent => {}
         }
+        last = next;
+        at = end;
     }
     if at < file.len() {
         return refused(at);

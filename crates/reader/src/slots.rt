@@ -8,7 +8,6 @@ use rack::Arcs;
 use rack::Bounds;
 use rack::Case;
 use rack::Log;
-use rack::Mark;
 use rack::Net;
 use rack::Observable;
 use rack::Pairs;
@@ -19,11 +18,10 @@ ghost use Prim.Native.Nat.{_+_, _*_, _≤_, _<_};
 ghost use lib.ListN.{length};
 ghost use Rattle.rack.specs.Bytes.{byte, marked, listAt, listEnd, ListIs};
 ghost use Rattle.rack.specs.Records.{NetIs, ntSays, ptSays, ArcsIs, trSays, pxSays, prSays, ObIs, obSays, qfEnd, qfSays, lgEnd, lgSays};
-ghost use Rattle.rack.specs.Layout.{FieldsAre, added, zeroCase};
-ghost use Rattle.reader.specs.RowsFit.{RowsFit};
+ghost use Rattle.rack.specs.Layout.{zeroCase};
 
 // NT: the system's places, cap and first tokens.
-fn add_nt(file: &[u8], at: usize) -> Net
+pub fn add_nt(file: &[u8], at: usize) -> Net
     requires { ⌜ NetIs 16 (now file) at ⌝ }
     ensures { λ r. ⌜ r ≡ ntSays (now (file .entry)) at ⌝ }
 {
@@ -38,7 +36,7 @@ fn add_nt(file: &[u8], at: usize) -> Net
 }
 
 // PT: the pattern's places, cap and first tokens.
-fn add_pt(file: &[u8], at: usize) -> PatternNet
+pub fn add_pt(file: &[u8], at: usize) -> PatternNet
     requires { ⌜ NetIs 8 (now file) at ⌝ }
     ensures { λ r. ⌜ r ≡ ptSays (now (file .entry)) at ⌝ }
 {
@@ -69,7 +67,7 @@ fn mark_pattern(rows: &mut [u8; 128], row: usize, file: &[u8], at: usize) -> usi
 }
 
 // TR: one more transition of the system.
-fn add_tr(mut arcs: Arcs, file: &[u8], at: usize) -> Arcs
+pub fn add_tr(mut arcs: Arcs, file: &[u8], at: usize) -> Arcs
     requires { ⌜ ArcsIs 48 16 (arcs .count) (now file) at ⌝ }
     ensures { λ r. ⌜ r ≡ trSays arcs (now (file .entry)) at ⌝ }
 {
@@ -82,7 +80,7 @@ fn add_tr(mut arcs: Arcs, file: &[u8], at: usize) -> Arcs
 }
 
 // PX: one more transition of the pattern.
-fn add_px(mut links: PatternArcs, file: &[u8], at: usize) -> PatternArcs
+pub fn add_px(mut links: PatternArcs, file: &[u8], at: usize) -> PatternArcs
     requires { ⌜ ArcsIs 16 8 (links .count) (now file) at ⌝ }
     ensures { λ r. ⌜ r ≡ pxSays links (now (file .entry)) at ⌝ }
 {
@@ -95,7 +93,7 @@ fn add_px(mut links: PatternArcs, file: &[u8], at: usize) -> PatternArcs
 }
 
 // PR: one more pair.
-fn add_pr(mut pairs: Pairs, file: &[u8], at: usize) -> Pairs
+pub fn add_pr(mut pairs: Pairs, file: &[u8], at: usize) -> Pairs
     requires { ⌜ (pairs .count < 32) × (at + 4 ≤ length (now file)) ⌝ }
     ensures { λ r. ⌜ r ≡ prSays pairs (now (file .entry)) at ⌝ }
 {
@@ -107,7 +105,7 @@ fn add_pr(mut pairs: Pairs, file: &[u8], at: usize) -> Pairs
 }
 
 // OB: the observable labels.
-fn add_ob(file: &[u8], at: usize) -> Observable
+pub fn add_ob(file: &[u8], at: usize) -> Observable
     requires { ⌜ ObIs (now file) at ⌝ }
     ensures { λ r. ⌜ r ≡ obSays (now (file .entry)) at ⌝ }
 {
@@ -117,7 +115,7 @@ fn add_ob(file: &[u8], at: usize) -> Observable
 }
 
 // QF: one more set of bounds, in a row of its own.
-fn add_qf(mut bounds: Bounds, file: &[u8], at: usize, places: u8) -> Bounds
+pub fn add_qf(mut bounds: Bounds, file: &[u8], at: usize, places: u8) -> Bounds
     requires { ⌜ (bounds .count < 8) × (places ≤ 8) × (qfEnd places at ≤ length (now file)) ⌝ }
     ensures { λ r. ⌜ r ≡ qfSays places bounds (now (file .entry)) at ⌝ }
 {
@@ -130,7 +128,7 @@ fn add_qf(mut bounds: Bounds, file: &[u8], at: usize, places: u8) -> Bounds
 }
 
 // LG: the log.
-fn add_lg(file: &[u8], at: usize) -> Log
+pub fn add_lg(file: &[u8], at: usize) -> Log
     requires { ⌜ (byte (now file) (at + 2) ≤ 40) × (lgEnd (now file) at ≤ length (now file)) ⌝ }
     ensures { λ r. ⌜ r ≡ lgSays (now (file .entry)) at ⌝ }
 {
@@ -142,50 +140,6 @@ fn add_lg(file: &[u8], at: usize) -> Log
         count: count,
         labels: labels,
     }
-}
-
-// The case with what the record at `at` says, whose mark is `mark`.
-pub fn add_record(file: &[u8], at: usize, mark: Mark, mut case: Case) -> Case
-    requires { ⌜ RowsFit case × FieldsAre mark case (now file) at ⌝ }
-    ensures { λ r. ⌜ r ≡ added mark case (now (file .entry)) at ⌝ }
-{
-    match mark {
-        Mark::Nt => {
-            let net = add_nt(file, at);
-            case.net = net;
-        }
-        Mark::Tr => {
-            let arcs = add_tr(case.arcs, file, at);
-            case.arcs = arcs;
-        }
-        Mark::Pr => {
-            let pairs = add_pr(case.pairs, file, at);
-            case.pairs = pairs;
-        }
-        Mark::Ob => {
-            let observable = add_ob(file, at);
-            case.observable = observable;
-        }
-        Mark::Pt => {
-            let pattern = add_pt(file, at);
-            case.pattern = pattern;
-        }
-        Mark::Px => {
-            let links = add_px(case.links, file, at);
-            case.links = links;
-        }
-        Mark::Qf => {
-            let bounds = add_qf(case.bounds, file, at, case.pattern.places);
-            case.bounds = bounds;
-        }
-        Mark::Lg => {
-            let log = add_lg(file, at);
-            case.log = log;
-        }
-        Mark::En => {}
-        Mark::Absent => {}
-    }
-    case
 }
 
 // The case of all zeros.
