@@ -18,7 +18,7 @@ use Rattle.rack.specs.declared.Verdict.the-variants as Verdict
 use Rattle.rack.proofs.OneReading.{one-case}
 use Rattle.rack.proofs.OneOutcome.{not-both, verdict-one}
 use Rattle.rack.proofs.Answer.{accepts, answer-unexplained}
-use Rattle.rack.proofs.Bound.{shown-run-bound}
+use Rattle.rack.proofs.Bound.{shown-run-bound, verdict-short}
 use Rattle.rack.proofs.WellFormed.{well-formed}
 use Rattle.demands.specs.Verdicts.{Some, No, Judgement, faulty, safe, ambiguous, FirstShown, Right}
 use Rattle.demands.specs.Verdicts as verdicts
@@ -114,3 +114,12 @@ module _ {f : List ℕ} {c : Case} (reads : ReadsAs f c) (ok : NetsPass c) (matc
   -- DEMAND 2
   pub demand-2 : {x : Judged} {a b w : List ℕ} → VerdictIs f matching other work x a b w → Right c matching other work x a b w
   demand-2 o = right (judgement o) o
+
+-- any two answers that the contract allows, of any file in any rooms, are equal, and so is every byte of the three rooms
+pub demand-2-one : {f matching other work : List ℕ} {x y : Judged} {a b w a′ b′ w′ : List ℕ} → VerdictIs f matching other work x a b w → VerdictIs f matching other work y a′ b′ w′
+    → (x ≡ y) × (a ≡ a′) × (b ≡ b′) × (w ≡ w′)
+demand-2-one {f} {matching} {other} {work} p q = verdict-one f matching other work p q
+
+-- and no shown run is longer than 20,991 firings
+pub demand-2-most : {f matching other work : List ℕ} {x : Judged} {a b w : List ℕ} → VerdictIs f matching other work x a b w → (x .matching ≤ 20991) × (x .other ≤ 20991)
+demand-2-most o = verdict-short o
