@@ -2,6 +2,9 @@ pub mod Scans
 pub mod Firsts
 pub mod Nets
 pub mod Outranking
+pub mod FlagLaws
 pub mod Following
 pub mod CaseParts
+pub mod JoiningLaws
+pub mod HereLaws
 pub mod Kept

@@ -1,2 +1,3 @@
 pub mod Firing
 pub mod Parts
+pub mod Here
