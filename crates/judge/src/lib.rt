@@ -11,6 +11,7 @@ ghost use mathlib.Core.Path.{_≡_};
 ghost use mathlib.Core.Bool.{true, false};
 ghost use mathlib.Core.List.{List};
 ghost use Prim.Native.Nat.{ℕ};
+ghost use Rattle.rack.specs.Outcome.{zeroed};
 ghost use Rattle.rack.specs.VerdictOutcome.{VerdictIs};
 ghost use Rattle.search.specs.Found.{Ready};
 ghost use Rattle.judge.specs.CaseJudged.{refusedBy, Shown};
@@ -25,6 +26,15 @@ fn refused(number: u8, beside: usize) -> Judged
         matching: 0,
         other: 0,
     }
+}
+
+// A refusal before anything is shown: the work room is all zeros afterwards.
+fn refuse(room: &mut [u8], number: u8, beside: usize) -> Judged
+    ensures { λ r. ⌜ r ≡ refusedBy number beside ⌝ }
+    ensures { λ _. ⌜ now (room .exit) ≡ zeroed (now (room .entry)) ⌝ }
+{
+    room::clear(room);
+    refused(number, beside)
 }
 
 // No explanation matches: the first other one is shown, if there is one and it fits its room.
@@ -132,21 +142,16 @@ pub fn judge(file: &[u8], matching: &mut [u8], other: &mut [u8], work: &mut [u8]
     ensures { λ r. ⌜ VerdictIs (now (file .entry)) (now (matching .entry)) (now (other .entry)) (now (work .entry)) r (now (matching .exit)) (now (other .exit)) (now (work .exit)) ⌝ }
 {
     if work.len() < 57344 {
-        room::clear(work);
-        return refused(1, 0);
+        return refuse(work, 1, 0);
     }
     let reading = reader::read_case(file);
     let outcome = reading.outcome;
     if let Outcome::Refused(number, place) = outcome {
-        room::clear(work);
-        return refused(number, place);
+        return refuse(work, number, place);
     }
     let answer = admit::check(reading.case, work);
     match answer {
-        Answer::Refused(number, beside) => {
-            room::clear(work);
-            refused(number, beside)
-        }
+        Answer::Refused(number, beside) => refuse(work, number, beside),
         Answer::Table(rows) => {
             let found = search::search(reading.case, work, rows);
             let met = found.met;

@@ -8,29 +8,30 @@ use native.Mathlib.Omega.{arith}
 use lib.ListN.{length, getD, take, drop, replicate}
 use Rattle.walks.specs.Below.{pick}
 use Rattle.walks.proofs.Grow.{split}
-use Rattle.rack.specs.Run.{logOf, matches}
-use Rattle.rack.specs.Listing.{Asked, from-start, after, NextIs, EndIs}
+use Rattle.rack.specs.Run.{logOf}
+use Rattle.rack.specs.Listing.{Asked, from-start, after, EndIs}
 use Rattle.rack.specs.Refusal.{GivenBad}
-use Rattle.rack.specs.Outcome.{holding, zeroed}
+use Rattle.rack.specs.Outcome.{holding}
 use Rattle.rack.specs.declared.Case.{Case}
 use Rattle.rack.specs.declared.Listed.{Listed}
 use Rattle.rack.specs.declared.Listed.the-variants.{Matching, Other, End, Refused}
 use Rattle.rack.proofs.ListingEnds.{long-log-ends}
-use Rattle.room.specs.Says.{Says}
 use Rattle.reach.proofs.TableLaws.{table-kept}
-use Rattle.search.specs.Found.{Ready}
-use Rattle.search.proofs.LentParts.{log-long}
 use Rattle.ahead.specs.Ahead.{Filled}
 use Rattle.seek.specs.Seeks.{Seeking, Given, FoundRun, SoughtIs, SoughtSays}
 use Rattle.seek.specs.declared.Sought.{Sought}
 use Rattle.seek.specs.declared.Sought.the-variants.{Run, Nothing}
-use Rattle.listing.specs.CaseListed.{Shown, matching, other, end, short, CaseListed, bad, shown, ListedSays, Listing}
+use Rattle.listing.specs.CaseListed.{Shown, matching, other, end, short, CaseListed, ListedSays, Listing, LogSays}
 use Rattle.listing.specs.Giving.{fronted, Gives, GivesOf, GiveSays, Short, GoodRun}
 
 -- ---- a log longer than the limit
 
-pub log-too-long : {c : Case} {work : List ℕ} {rows limit : ℕ} → Listing c work rows limit → (asked : Asked) (room : List ℕ) → limit < c .log .count → Shown c limit asked room End room
-log-too-long {c} {work} {rows} {limit} x asked room h = end (long-log-ends c limit asked (omega (arith, log-long (x .ready))))
+module _ {c : Case} {limit : ℕ} where
+  pub past-limit : length (logOf c) ≡ c .log .count → limit < c .log .count → LogSays c limit true
+  past-limit whole h = record { ends = λ e asked. long-log-ends c limit asked (omega arith); fits = λ e. absurd (true≢false e) }
+
+  pub within-limit : c .log .count ≤ limit → LogSays c limit false
+  within-limit h = record { ends = λ e. absurd (true≢false (sym e)); fits = λ e. h }
 
 -- ---- what is worked out first
 
@@ -46,6 +47,11 @@ seeking x f s out l =
     }
 
 -- ---- what is found
+
+-- nothing
+pub end-shown : {c : Case} {limit : ℕ} {asked : Asked} {room : List ℕ} {x : Listed} {a : List ℕ} → EndIs c limit asked → (x ≡ End) × (a ≡ room) → Shown c limit asked room x a
+end-shown {c} {limit} {asked} {room} {a = a} f g =
+    subst (λ (y : Listed). Shown c limit asked room y a) (sym (g .0)) (subst (λ (y : List ℕ). Shown c limit asked room End y) (sym (g .1)) (end f))
 
 take-front : (r s : List ℕ) → take (length r) (r ++ s) ≡ r
 take-front [] s = refl
@@ -94,7 +100,7 @@ module _ (c : Case) (limit : ℕ) (asked : Asked) (out₀ out room : List ℕ) w
 
   of-found : (s : Sought) (x : Listed) (a : List ℕ) → SoughtIs c limit asked out₀ out s → GivesOf out room s x a → Shown c limit asked room x a
   of-found (Run m k) x a f g = of-run m k f x a g
-  of-found Nothing x a f g = subst (λ (y : Listed). Shown c limit asked room y a) (sym (g .0)) (subst (λ (y : List ℕ). Shown c limit asked room End y) (sym (g .1)) (end f))
+  of-found Nothing x a f g = end-shown f g
 
   pub found-shown : (s : Sought) (x : Listed) (a : List ℕ) → SoughtSays c limit asked out₀ out s → GiveSays out room s x a → Shown c limit asked room x a
   found-shown s x a f g = of-found s x a (f .is) (g .is)

@@ -1,6 +1,6 @@
 -- From the listing of a case that has been read to the outcome of the call on its file. Assumes nothing.
-use Prim.Native.Nat.{ℕ, _<_, _≤_}
-use mathlib.Core.Path.{refl, sym, subst}
+use Prim.Native.Nat.{ℕ, _≤_}
+use mathlib.Core.Path.{_≡_, refl, sym, subst}
 use mathlib.Core.List.{List, [], _∷_, _++_}
 use lib.ListN.{length}
 use Rattle.rack.specs.Listing.{Asked, NextIs}
@@ -18,64 +18,62 @@ use Rattle.rack.proofs.OneFirst.{next-one}
 use Rattle.rack.proofs.Lift.{layout-rests, lift-refuses, lift-on, passes-accept}
 use Rattle.rack.proofs.Answer.{listing-accepts, answer-end}
 use Rattle.admit.specs.Admits.{NetsRefuse, of-pattern, of-product}
+use Rattle.listing.specs.Barred.{Barred, by-room, by-limit, by-neither}
 use Rattle.listing.specs.CaseListed.{Shown, matching, other, end, short, CaseListed, bad, shown}
 
 module _ (f : List ℕ) (most : ℕ) (asked : Asked) (room work : List ℕ) where
-  -- 1: the work room is too short
-  pub short-room : length work < workRoom → ListingIs f most asked room work (Refused 1 0) room (zeroed work)
-  short-room h = outcome.refused (speaks {k = work-room} (h, refl))
+  -- 1, the work room is too short, and 12, the limit is over 24
+  pub barred-outcome : {n : ℕ} → Barred (length work) most n → (n ≡ 0 → ⊥) → ListingIs f most asked room work (Refused n 0) room (zeroed work)
+  barred-outcome (by-room h) e = outcome.refused (speaks {k = work-room} (h, refl))
+  barred-outcome (by-limit r h) e = outcome.refused (rests r (speaks {k = limit} (h, refl)))
+  barred-outcome (by-neither r h) e = absurd (e refl)
 
-  module _ (enough : workRoom ≤ length work) where
-    -- 12: the limit is over 24
-    pub over-limit : 24 < most → ListingIs f most asked room work (Refused 12 0) room (zeroed work)
-    over-limit h = outcome.refused (rests enough (speaks {k = limit} (h, refl)))
+  module _ (enough : workRoom ≤ length work) (low : most ≤ 24) where
+    -- 2: the file breaks the layout
+    pub broken-file : {p : ℕ} → BreaksAt f p → ListingIs f most asked room work (Refused 2 p) room (zeroed work)
+    broken-file b = outcome.refused (rests enough (rests low (speaks b)))
 
-    module _ (low : most ≤ 24) where
-      -- 2: the file breaks the layout
-      pub broken-file : {p : ℕ} → BreaksAt f p → ListingIs f most asked room work (Refused 2 p) room (zeroed work)
-      broken-file b = outcome.refused (rests enough (rests low (speaks b)))
+    module _ {c : Case} (reads : ReadsAs f c) where
+      abbrev q : Question
+      q = ofListing f most asked work
 
-      module _ {c : Case} (reads : ReadsAs f c) where
-        abbrev q : Question
-        q = ofListing f most asked work
+      abbrev Too : ℕ → Type 0
+      Too = NextShort f most asked room
 
-        abbrev Too : ℕ → Type 0
-        Too = NextShort f most asked room
+      abbrev Fit : Type 0
+      Fit = NextFits f most asked room
 
-        abbrev Fit : Type 0
-        Fit = NextFits f most asked room
+      -- a refusal after the checks 1, 12 and 2
+      after-file : {n m : ℕ} → FirstToSpeak (Speaks q Too) (Silent q Fit) (patternOrder ++ (productOrder ++ (given-run ∷ lent-room ∷ []))) n m
+          → ListingIs f most asked room work (Refused n m) room (zeroed work)
+      after-file s = outcome.refused (rests enough (rests low (rests (layout-rests q Too Fit c reads) s)))
 
-        -- a refusal after the checks 1, 12 and 2
-        after-file : {n m : ℕ} → FirstToSpeak (Speaks q Too) (Silent q Fit) (patternOrder ++ (productOrder ++ (given-run ∷ lent-room ∷ []))) n m
-            → ListingIs f most asked room work (Refused n m) room (zeroed work)
-        after-file s = outcome.refused (rests enough (rests low (rests (layout-rests q Too Fit c reads) s)))
+      -- 3 to 9
+      pub nets-refuse : {n m : ℕ} → NetsRefuse c n m → ListingIs f most asked room work (Refused n m) room (zeroed work)
+      nets-refuse (of-pattern s) = after-file (lift-refuses q Too Fit c reads (productOrder ++ (given-run ∷ lent-room ∷ [])) s)
+      nets-refuse (of-product a s) = after-file (lift-on q Too Fit c reads {more = productOrder ++ (given-run ∷ lent-room ∷ [])} a (lift-refuses q Too Fit c reads (given-run ∷ lent-room ∷ []) s))
 
-        -- 3 to 9
-        pub nets-refuse : {n m : ℕ} → NetsRefuse c n m → ListingIs f most asked room work (Refused n m) room (zeroed work)
-        nets-refuse (of-pattern s) = after-file (lift-refuses q Too Fit c reads (productOrder ++ (given-run ∷ lent-room ∷ [])) s)
-        nets-refuse (of-product a s) = after-file (lift-on q Too Fit c reads {more = productOrder ++ (given-run ∷ lent-room ∷ [])} a (lift-refuses q Too Fit c reads (given-run ∷ lent-room ∷ []) s))
+      module _ (ok : NetsPass c) where
+        -- a refusal after the checks 3 to 9
+        after-nets : {n m : ℕ} → FirstToSpeak (Speaks q Too) (Silent q Fit) (given-run ∷ lent-room ∷ []) n m → ListingIs f most asked room work (Refused n m) room (zeroed work)
+        after-nets s = after-file (lift-on q Too Fit c reads {more = given-run ∷ lent-room ∷ []} (passes-accept ok) s)
 
-        module _ (ok : NetsPass c) where
-          -- a refusal after the checks 3 to 9
-          after-nets : {n m : ℕ} → FirstToSpeak (Speaks q Too) (Silent q Fit) (given-run ∷ lent-room ∷ []) n m → ListingIs f most asked room work (Refused n m) room (zeroed work)
-          after-nets s = after-file (lift-on q Too Fit c reads {more = given-run ∷ lent-room ∷ []} (passes-accept ok) s)
+        module _ (good : GivenBad c most asked → ⊥) where
+          fits : {r : List ℕ} → NextIs c most asked r → length r ≤ length room → NextFits f most asked room
+          fits {r} x h d s p y =
+              let e = next-one (subst (λ (g : Case). NextIs g most asked s) (one-case p reads) y) x in
+              subst (λ (l : List ℕ). length l ≤ length room) (sym e) h
 
-          module _ (good : GivenBad c most asked → ⊥) where
-            fits : {r : List ℕ} → NextIs c most asked r → length r ≤ length room → NextFits f most asked room
-            fits {r} x h d s p y =
-                let e = next-one (subst (λ (g : Case). NextIs g most asked s) (one-case p reads) y) x in
-                subst (λ (l : List ℕ). length l ≤ length room) (sym e) h
+          shown-outcome : {x : Listed} {a : List ℕ} → Shown c most asked room x a → ListingIs f most asked room work x a (zeroed work)
+          shown-outcome (matching x m h) = outcome.matching (listing-accepts reads ok most low asked good room work enough (fits x h)) reads x m
+          shown-outcome (other x m h) = outcome.other (listing-accepts reads ok most low asked good room work enough (fits x h)) reads x m
+          shown-outcome (end x) = answer-end reads ok most low asked good room work enough x
+          shown-outcome (short {r = r} x h) =
+              after-nets
+              (rests (record { case = c; reads = reads; is = good })
+              (speaks (record { case = c; run = r; reads = reads; next = x; short = h; needed = refl })))
 
-            shown-outcome : {x : Listed} {a : List ℕ} → Shown c most asked room x a → ListingIs f most asked room work x a (zeroed work)
-            shown-outcome (matching x m h) = outcome.matching (listing-accepts reads ok most low asked good room work enough (fits x h)) reads x m
-            shown-outcome (other x m h) = outcome.other (listing-accepts reads ok most low asked good room work enough (fits x h)) reads x m
-            shown-outcome (end x) = answer-end reads ok most low asked good room work enough x
-            shown-outcome (short {r = r} x h) =
-                after-nets
-                (rests (record { case = c; reads = reads; is = good })
-                (speaks (record { case = c; run = r; reads = reads; next = x; short = h; needed = refl })))
-
-          -- THE LISTING of a file that reads as c
-          pub listing-of : {x : Listed} {a : List ℕ} → CaseListed c most asked room x a → ListingIs f most asked room work x a (zeroed work)
-          listing-of (bad b) = after-nets (speaks {k = given-run} (record { case = c; reads = reads; is = b }, refl))
-          listing-of (shown g s) = shown-outcome g s
+        -- THE LISTING of a file that reads as c
+        pub listing-of : {x : Listed} {a : List ℕ} → CaseListed c most asked room x a → ListingIs f most asked room work x a (zeroed work)
+        listing-of (bad b) = after-nets (speaks {k = given-run} (record { case = c; reads = reads; is = b }, refl))
+        listing-of (shown g s) = shown-outcome g s

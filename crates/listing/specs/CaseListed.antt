@@ -36,3 +36,8 @@ pub record ListedSays (c : Case) (limit : ℕ) (asked : Asked) (room work : List
 pub record Listing (c : Case) (work : List ℕ) (rows limit : ℕ) : Type 0 where
   pub ready : Ready c work rows
   pub low : limit ≤ 24
+
+-- r tells whether the log is longer than the limit: "A log longer than the limit gives the end."
+pub record LogSays (c : Case) (limit : ℕ) (r : Bool) : Type 0 where
+  pub ends : r ≡ true → (asked : Asked) → EndIs c limit asked
+  pub fits : r ≡ false → c .log .count ≤ limit

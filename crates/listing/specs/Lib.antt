@@ -1,2 +1,3 @@
+pub mod Barred
 pub mod CaseListed
 pub mod Giving

@@ -4,6 +4,7 @@ use seek::Sought;
 ghost use mathlib.Core.Path.{_≡_};
 ghost use Prim.Native.Nat.{_≤_};
 ghost use lib.ListN.{length};
+ghost use Rattle.rack.specs.Outcome.{zeroed};
 ghost use Rattle.room.specs.Says.{Says};
 ghost use Rattle.listing.specs.Giving.{fronted, GiveSays, Short, GoodRun};
 
@@ -20,7 +21,7 @@ fn copy(run: &[u8], m: usize, room: &mut [u8])
 }
 
 // The answer for what was found: the run is written to the front of the room where it fits.
-pub fn give(sought: Sought, run: &[u8; 24], room: &mut [u8]) -> Listed
+fn give(sought: Sought, run: &[u8; 24], room: &mut [u8]) -> Listed
     requires { ⌜ Short sought ⌝ }
     ensures { λ r. ⌜ GiveSays (now (run .entry)) (now (room .entry)) sought r (now (room .exit)) ⌝ }
 {
@@ -37,6 +38,17 @@ pub fn give(sought: Sought, run: &[u8; 24], room: &mut [u8]) -> Listed
             Listed::Other(m)
         }
     }
+}
+
+// The same as the last step of a call: the work room is all zeros afterwards.
+pub fn give_and_clear(sought: Sought, run: &[u8; 24], room: &mut [u8], work: &mut [u8]) -> Listed
+    requires { ⌜ Short sought ⌝ }
+    ensures { λ _. ⌜ now (work .exit) ≡ zeroed (now (work .entry)) ⌝ }
+    ensures { λ r. ⌜ GiveSays (now (run .entry)) (now (room .entry)) sought r (now (room .exit)) ⌝ }
+{
+    let listed = give(sought, run, room);
+    room::clear(work);
+    listed
 }
 
 // Whether a given run is within the limit and holds numbers of transitions only.

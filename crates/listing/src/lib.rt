@@ -1,16 +1,22 @@
 // The listing of explanations: the calls `first` and `next`, over every file and every length of room. They read the file and admit its case (checks 1, 12
 // and 2 to 9), look at the given run (13), work out what can still be finished in so many firings, and give the next explanation by a depth-first search.
 // What their answers mean stands in rack's specs/ListingOutcome.antt.
-use crate::giving::give;
+use crate::giving::give_and_clear;
 use crate::giving::is_good;
 use admit::Answer;
 use rack::Case;
 use rack::Listed;
 use rack::Outcome;
+use seek::Sought;
 ghost use mathlib.Core.Path.{_≡_};
+ghost use lib.ListN.{length};
+ghost use Rattle.rack.specs.Run.{logOf};
 ghost use Rattle.rack.specs.Listing.{from-start, after};
+ghost use Rattle.rack.specs.Outcome.{zeroed};
 ghost use Rattle.rack.specs.ListingOutcome.{ListingIs};
-ghost use Rattle.listing.specs.CaseListed.{Listing, ListedSays};
+ghost use Rattle.rack.specs.declared.Listed.the-variants.{Refused};
+ghost use Rattle.listing.specs.Barred.{Barred};
+ghost use Rattle.listing.specs.CaseListed.{Listing, ListedSays, LogSays};
 
 mod giving; // giving.rt: giving a run that has been found
 
@@ -21,22 +27,52 @@ fn wide(x: u8) -> usize
     x as usize
 }
 
+// The checks that look at no file, 1 and 12, by the work room's length and the limit: the number of the first that speaks, or 0.
+fn barred(bytes: usize, limit: usize) -> u8
+    ensures { λ r. ⌜ Barred bytes limit r ⌝ }
+{
+    if bytes < 57344 {
+        return 1;
+    }
+    if 24 < limit {
+        return 12;
+    }
+    0
+}
+
+// A refusal: the work room is all zeros afterwards.
+fn refuse(work: &mut [u8], number: u8, beside: usize) -> Listed
+    ensures { λ r. ⌜ r ≡ Refused number beside ⌝ }
+    ensures { λ _. ⌜ now (work .exit) ≡ zeroed (now (work .entry)) ⌝ }
+{
+    room::clear(work);
+    Listed::Refused(number, beside)
+}
+
+// Whether the log is longer than the limit: then nothing within the limit explains it.
+fn log_too_long(c: Case, limit: usize) -> bool
+    requires { ⌜ length (logOf c) ≡ c .log .count ⌝ }
+    ensures { λ r. ⌜ LogSays c limit r ⌝ }
+{
+    let log = c.log;
+    if limit < wide(log.count) {
+        return true;
+    }
+    false
+}
+
 // The first explanation of a case that passes the checks 2 to 9, whose reachable markings are the first rows of the work room.
 fn first_of(c: Case, rows: usize, limit: usize, room: &mut [u8], work: &mut [u8]) -> Listed
     requires { ⌜ Listing c (now work) rows limit ⌝ }
     ensures { λ r. ⌜ ListedSays c limit from-start (now (room .entry)) (now (work .entry)) r (now (room .exit)) (now (work .exit)) ⌝ }
 {
-    let log = c.log;
-    if limit < wide(log.count) {
-        room::clear(work);
-        return Listed::End;
+    let mut run = [0u8; 24];
+    if log_too_long(c, limit) {
+        return give_and_clear(Sought::Nothing, &run, room, work);
     }
     ahead::fill(c, work, rows, limit);
-    let mut run = [0u8; 24];
     let sought = seek::first(c, work, rows, limit, &mut run);
-    let listed = give(sought, &run, room);
-    room::clear(work);
-    listed
+    give_and_clear(sought, &run, room, work)
 }
 
 // The first explanation of such a case that comes later than the given run.
@@ -53,20 +89,15 @@ fn next_of(
 {
     let arcs = c.arcs;
     if !is_good(given, limit, arcs.count) {
-        room::clear(work);
-        return Listed::Refused(13, 0);
+        return refuse(work, 13, 0);
     }
-    let log = c.log;
-    if limit < wide(log.count) {
-        room::clear(work);
-        return Listed::End;
+    let mut run = [0u8; 24];
+    if log_too_long(c, limit) {
+        return give_and_clear(Sought::Nothing, &run, room, work);
     }
     ahead::fill(c, work, rows, limit);
-    let mut run = [0u8; 24];
     let sought = seek::next(c, work, rows, limit, given, &mut run);
-    let listed = give(sought, &run, room);
-    room::clear(work);
-    listed
+    give_and_clear(sought, &run, room, work)
 }
 
 // The first explanation of the case in a file, at most the limit long, with its mark; or the end. Its bytes are written to the front of the room, and
@@ -74,26 +105,18 @@ fn next_of(
 pub fn first(file: &[u8], limit: usize, room: &mut [u8], work: &mut [u8]) -> Listed
     ensures { λ r. ⌜ ListingIs (now (file .entry)) limit from-start (now (room .entry)) (now (work .entry)) r (now (room .exit)) (now (work .exit)) ⌝ }
 {
-    if work.len() < 57344 {
-        room::clear(work);
-        return Listed::Refused(1, 0);
-    }
-    if 24 < limit {
-        room::clear(work);
-        return Listed::Refused(12, 0);
+    let early = barred(work.len(), limit);
+    if early != 0 {
+        return refuse(work, early, 0);
     }
     let reading = reader::read_case(file);
     let outcome = reading.outcome;
     if let Outcome::Refused(number, place) = outcome {
-        room::clear(work);
-        return Listed::Refused(number, place);
+        return refuse(work, number, place);
     }
     let answer = admit::check(reading.case, work);
     match answer {
-        Answer::Refused(number, beside) => {
-            room::clear(work);
-            Listed::Refused(number, beside)
-        }
+        Answer::Refused(number, beside) => refuse(work, number, beside),
         Answer::Table(rows) => first_of(reading.case, rows, limit, room, work),
     }
 }
@@ -102,26 +125,18 @@ pub fn first(file: &[u8], limit: usize, room: &mut [u8], work: &mut [u8]) -> Lis
 pub fn next(file: &[u8], limit: usize, given: &[u8], room: &mut [u8], work: &mut [u8]) -> Listed
     ensures { λ r. ⌜ ListingIs (now (file .entry)) limit (after (now (given .entry))) (now (room .entry)) (now (work .entry)) r (now (room .exit)) (now (work .exit)) ⌝ }
 {
-    if work.len() < 57344 {
-        room::clear(work);
-        return Listed::Refused(1, 0);
-    }
-    if 24 < limit {
-        room::clear(work);
-        return Listed::Refused(12, 0);
+    let early = barred(work.len(), limit);
+    if early != 0 {
+        return refuse(work, early, 0);
     }
     let reading = reader::read_case(file);
     let outcome = reading.outcome;
     if let Outcome::Refused(number, place) = outcome {
-        room::clear(work);
-        return Listed::Refused(number, place);
+        return refuse(work, number, place);
     }
     let answer = admit::check(reading.case, work);
     match answer {
-        Answer::Refused(number, beside) => {
-            room::clear(work);
-            Listed::Refused(number, beside)
-        }
+        Answer::Refused(number, beside) => refuse(work, number, beside),
         Answer::Table(rows) => next_of(reading.case, rows, limit, given, room, work),
     }
 }
