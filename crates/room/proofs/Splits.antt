@@ -1,11 +1,14 @@
 -- Cases on two numbers, and what a yes or no tells.
 -- Assumes nothing.
-use Prim.Native.Nat.{ℕ, _-_, _≤_, _<_}
+use Prim.Native.Nat.{ℕ, _+_, _-_, _≤_, _<_}
 use mathlib.Core.Path.{_≡_, refl, sym, _∙_, subst}
-use mathlib.Core.Bool.{Bool, true, false, false≢true}
+use mathlib.Core.Bool.{Bool, true, false, false≢true, _&&_}
 use mathlib.Core.Logic.{_⊎_, inl, inr, ⊎-elim}
 use native.Mathlib.Omega.{arith}
 use native.Mathlib.Decide.{decLt, ℕ-discrete}
+use borrow.Author.Count.{below-more}
+use borrow.Author.Tests.{eqb-true, eqb-false}
+use lib.Dec.{eqb}
 use Rattle.room.specs.Says.{Says}
 
 pub less-or-not : (k a : ℕ) → (k < a) ⊎ (a ≤ k)
@@ -35,3 +38,12 @@ says-no n = record { sound = λ e. absurd (false≢true e); complete = λ p. abs
 
 pub says-not : {r : Bool} {P : Type 0} → Says r P → r ≡ false → P → ⊥
 says-not s e p = false≢true (sym e ∙ s .complete p)
+
+-- it is known whether two functions agree below p: one number more is looked at
+pub agree-next : (f g : ℕ → ℕ) (p : ℕ) {b : Bool} → Says b ((k : ℕ) → k < p → f k ≡ g k) → Says (eqb (f p) (g p) && b) ((k : ℕ) → k < p + 1 → f k ≡ g k)
+agree-next f g p {b} s = go (eqb (f p) (g p)) refl
+  where
+    go : (t : Bool) → eqb (f p) (g p) ≡ t → Says (t && b) ((k : ℕ) → k < p + 1 → f k ≡ g k)
+    go true e =
+        record { sound = λ z. below-more (λ (k : ℕ). f k ≡ g k) p (s .sound z) (eqb-true (f p) (g p) e); complete = λ h. s .complete (λ k l. h k (omega arith)) }
+    go false e = says-no (λ h. eqb-false (f p) (g p) e (h p (omega arith)))
