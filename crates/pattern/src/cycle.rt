@@ -1,5 +1,5 @@
 // Refusal 3: "priority pairs close a cycle, a pair of one transition with itself included".
-use crate::wide;
+use engine::wide;
 use rack::SystemTransition;
 ghost use Prim.Native.Nat.{_<_};
 ghost use Rattle.pattern.specs.Says.{Says};

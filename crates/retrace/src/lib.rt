@@ -2,8 +2,8 @@
 // reached and why it stopped. A run of any length and every budget from 0 to 65,535 are taken; no room is lent. What the answer is stands in
 // rack's specs/Replay.antt and specs/ReplayOutcome.antt.
 use crate::firing::fire;
-use crate::firing::wide;
 use engine::Product;
+use engine::wide;
 use pattern::Checked;
 use rack::Case;
 use rack::Outcome;
