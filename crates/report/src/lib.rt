@@ -4,6 +4,7 @@ use rack::Net;
 use rack::PatternNet;
 use rack::Replayed;
 use rack::Stop;
+ghost use Prim.Native.Nat.{_+_, _≤_};
 
 // A byte as a number.
 fn wide(x: u8) -> usize {
@@ -47,15 +48,48 @@ pub fn refused(number_of: u8, beside: usize) {
     line_end();
 }
 
+// Puts a blank and the digits of x from the place on, and answers the place behind them.
+fn spell(out: &mut [u8; 256], at: usize, x: u8) -> usize
+    requires { ⌜ at ≤ 252 ⌝ }
+    ensures { λ r. ⌜ r ≤ at + 4 ⌝ }
+{
+    out[at] = b' ';
+    if x < 10 {
+        out[at + 1] = b'0' + x;
+        return at + 2;
+    }
+    if x < 100 {
+        out[at + 1] = b'0' + x / 10;
+        out[at + 2] = b'0' + x % 10;
+        return at + 3;
+    }
+    out[at + 1] = b'0' + x / 100;
+    out[at + 2] = b'0' + x / 10 % 10;
+    out[at + 3] = b'0' + x % 10;
+    at + 4
+}
+
+// Numbers, each with a blank before it. They are put together in the lent bytes, and written when these are nearly full: a long run takes
+// few writes.
+fn spelled(numbers: &[u8], out: &mut [u8; 256]) {
+    let mut used: usize = 0;
+    let mut i: usize = 0;
+    while i < numbers.len() {
+        if 252 < used {
+            text(first(out, used));
+            used = 0;
+        }
+        used = spell(out, used, numbers[i]);
+        i += 1;
+    }
+    text(first(out, used));
+}
+
 // A run without a line end: its length, then its numbers.
 pub fn run(numbers: &[u8]) {
     number(numbers.len());
-    let mut i: usize = 0;
-    while i < numbers.len() {
-        text(b" ");
-        number(wide(numbers[i]));
-        i += 1;
-    }
+    let mut out = [0u8; 256];
+    spelled(numbers, &mut out);
 }
 
 // Counts of tokens with a blank between each two, and no line end.
