@@ -1,7 +1,7 @@
 -- DEMAND 1, over the calls' contracts: `demand-1-reader`, `demand-1-writer`, `demand-1-verdict`, `demand-1-listing`, `demand-1-replay`. Every file
 -- and every length of lent room is taken; a bad one gets exactly its refusal number, and that changes nothing. Assumes nothing.
 use Prim.Native.Nat.{ℕ}
-use mathlib.Core.Path.{_≡_, refl, sym, ap, _∙_, subst}
+use mathlib.Core.Path.{_≡_, refl, ap, subst}
 use mathlib.Core.Bool.{Bool, true, false}
 use mathlib.Core.List.{List}
 use native.Mathlib.Omega.{arith}
@@ -24,7 +24,6 @@ use Rattle.rack.specs.ReplayOutcome.{replayOf, replayRefused, ReplayIs}
 use Rattle.rack.specs.ReplayOutcome as replay
 use Rattle.rack.specs.declared.Case.{Case}
 use Rattle.rack.specs.declared.Reading.{Reading}
-use Rattle.rack.specs.declared.Outcome.{Outcome}
 use Rattle.rack.specs.declared.Outcome.the-variants as Reader
 use Rattle.rack.specs.declared.Written.{Written}
 use Rattle.rack.specs.declared.Written.the-variants as Writer
@@ -33,11 +32,10 @@ use Rattle.rack.specs.declared.Verdict.{Verdict}
 use Rattle.rack.specs.declared.Verdict.the-variants as Verdict
 use Rattle.rack.specs.declared.Listed.{Listed}
 use Rattle.rack.specs.declared.Listed.the-variants as Listing
-use Rattle.rack.specs.declared.Stop.{Stop}
 use Rattle.rack.specs.declared.Stop.the-variants as Replay
 use Rattle.rack.specs.declared.Replayed.{Replayed}
 use Rattle.rack.proofs.OneOutcome.{reader-one, writer-one, verdict-one, listing-one, replay-one}
-use Rattle.demands.specs.Refusals.{Exactly, ReaderTaken, WriterTaken, VerdictTaken, ListingTaken, ReplayTaken}
+use Rattle.demands.specs.Refusals.{ReaderTaken, WriterTaken, VerdictTaken, ListingTaken, ReplayTaken}
 
 -- the refusal of two numbers is the refusal of two others that they are equal to
 moved : (P : ℕ → ℕ → Type 0) (a b n m : ℕ) → a ≡ n → b ≡ m → P a b → P n m

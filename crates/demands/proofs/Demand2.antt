@@ -14,7 +14,6 @@ use Rattle.rack.specs.VerdictOutcome as outcome
 use Rattle.rack.specs.declared.Case.{Case}
 use Rattle.rack.specs.declared.Judged.{Judged}
 use Rattle.rack.specs.declared.Verdict.{Verdict}
-use Rattle.rack.specs.declared.Verdict.the-variants as Verdict
 use Rattle.rack.proofs.OneReading.{one-case}
 use Rattle.rack.proofs.OneOutcome.{not-both, verdict-one}
 use Rattle.rack.proofs.Answer.{accepts, answer-unexplained}

@@ -1,21 +1,21 @@
 -- DEMAND 2 for replay, over its contract: `demand-2-replay`. Of a file that the checks 2 to 7 let pass, every answer that the contract allows tells
 -- what firing the given numbers one by one comes to. Assumes nothing.
 use Prim.Native.Nat.{ℕ, _<_, _≤_}
-use mathlib.Core.Path.{_≡_, refl, sym, ap, _∙_, subst}
-use mathlib.Core.Bool.{Bool, true, false, _&&_, true≢false}
+use mathlib.Core.Path.{_≡_, refl, subst}
+use mathlib.Core.Bool.{Bool, true, false, _&&_}
 use mathlib.Core.List.{List, [], _∷_}
 use mathlib.Core.Logic.{⊎-elim}
 use native.Mathlib.Omega.{arith}
 use borrow.Author.Tests.{eq-eqb, eqb-true, eqb-false}
 use lib.ListN.{length, getD, take}
-use lib.Dec.{T, eqb}
+use lib.Dec.{eqb}
 use Rattle.walks.specs.Below.{pick}
 use Rattle.walks.specs.Walk.{ends}
 use Rattle.walks.proofs.Tests.{and-left, and-right, and-both, is-true, of-true}
 use Rattle.walks.proofs.Grow.{split}
 use Rattle.rack.specs.Follow.{ProductMarking, start, step}
 use Rattle.rack.specs.Reach.{productWithin}
-use Rattle.rack.specs.Run.{fires, end, Explains}
+use Rattle.rack.specs.Run.{fires, end}
 use Rattle.rack.specs.Replay.{goesOn, count, reached, reasonAfter, reason, explains, saysExplains}
 use Rattle.rack.specs.Layout.{ReadsAs}
 use Rattle.rack.specs.Refusal.{Accepts, replayOrder}
@@ -26,7 +26,7 @@ use Rattle.rack.specs.declared.Stop.the-variants.{RunEnded, BudgetSpent, NotFir
 use Rattle.rack.specs.declared.Replayed.{Replayed}
 use Rattle.rack.proofs.Decide.{explains-of}
 use Rattle.rack.proofs.OneOutcome.{replay-one}
-use Rattle.rack.proofs.Replaying.{Counted, count-is, explains-yes}
+use Rattle.rack.proofs.Replaying.{count-is, explains-yes}
 use Rattle.demands.specs.Replays.{StopsFor, run-ended, budget-spent, not-firable, cap-passed, markingOf, Fired}
 
 -- where moves lead does not depend on which can be made

@@ -1,11 +1,10 @@
 -- DEMAND 3, over the listing's contract: `demand-3`. Of a file without fault, asked from the start and then after each run it gives, any program
 -- that meets the contract gives all explanations within the limit, each once, in the order of runs, truly marked, and then says the end.
 -- Assumes nothing.
-use Prim.Native.Nat.{ℕ, _≤_, _<_}
+use Prim.Native.Nat.{ℕ, _≤_}
 use mathlib.Core.Path.{_≡_, refl, sym, ap, _∙_, subst}
 use mathlib.Core.Bool.{Bool, true, false}
 use mathlib.Core.List.{List, [], _∷_, _++_}
-use mathlib.Core.Logic.{⊎-elim}
 use native.Mathlib.Omega.{arith}
 use lib.ListN.{length, take, drop}
 use lib.Dec.{T}
@@ -24,12 +23,12 @@ use Rattle.rack.specs.ListingOutcome.{ofListing, NextShort, NextFits, ListingIs
 use Rattle.rack.specs.ListingOutcome as list
 use Rattle.rack.specs.declared.Case.{Case}
 use Rattle.rack.specs.declared.Listed.{Listed}
-use Rattle.rack.specs.declared.Listed.the-variants.{Matching, Other, End, Refused}
+use Rattle.rack.specs.declared.Listed.the-variants.{End}
 use Rattle.rack.proofs.Accept.{firable-known}
 use Rattle.rack.proofs.Answer.{given-good, listing-accepts}
 use Rattle.rack.proofs.OneReading.{one-case}
 use Rattle.rack.proofs.OneOutcome.{not-listed}
-use Rattle.demands.specs.Listings.{Answered, Meets, Enough, Explanation, gives, Asking, ended, given, Every, Among, here, there, InOrder, then, Truly, Whole}
+use Rattle.demands.specs.Listings.{Answered, Meets, Enough, Explanation, gives, Asking, ended, given, Among, here, there, InOrder, then, Whole}
 use Rattle.demands.specs.Listings as listing
 use Rattle.demands.proofs.Upward.{Low, upward-induction}
 

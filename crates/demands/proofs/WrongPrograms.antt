@@ -2,18 +2,15 @@
 -- everything, one that always says Safe, one that always shows the empty run, one that writes nothing; a listing that gives its first run and then the
 -- end; a replay that does nothing, and one that invents a count. Assumes nothing.
 use Prim.Native.Nat.{ℕ, _≤_}
-use mathlib.Core.Path.{_≡_, refl, sym, ap, _∙_, subst}
-use mathlib.Core.Bool.{Bool, true, false}
-use mathlib.Core.List.{List, [], _∷_, _++_}
+use mathlib.Core.Path.{_≡_, refl, sym, ap, _∙_}
+use mathlib.Core.List.{List, [], _∷_}
 use native.Mathlib.Omega.{arith}
 use lib.ListN.{length, getD}
 use Rattle.walks.specs.Below.{allBelow, anyBelow, firstFrom, tableFrom}
-use Rattle.walks.specs.Walk.{walks, ends}
 use Rattle.rack.specs.Net.{supplied, enabledBy, left, firedBy, capped, within, enabled, fired, pairs, above, blocks, firable}
 use Rattle.rack.specs.Follow.{patternEnabled, patternFired, patternLabel, labelOf, joins, follow, start, step}
 use Rattle.rack.specs.Reach.{productWithin}
-use Rattle.rack.specs.Run.{fires}
-use Rattle.rack.specs.Listing.{Asked, after}
+use Rattle.rack.specs.Listing.{after}
 use Rattle.rack.specs.Replay.{goesOn, firings, count}
 use Rattle.rack.specs.Bytes.{filled, put, marked}
 use Rattle.rack.specs.Writing.{bytesOf}
@@ -27,7 +24,6 @@ use Rattle.rack.specs.Hub.{arc, hub, hubTable}
 use Rattle.rack.specs.declared.Judged.{Judged}
 use Rattle.rack.specs.declared.Verdict.{Verdict}
 use Rattle.rack.specs.declared.Verdict.the-variants as Verdict
-use Rattle.rack.specs.declared.Listed.{Listed}
 use Rattle.rack.specs.declared.Listed.the-variants as Listing
 use Rattle.rack.specs.declared.Replayed.{Replayed}
 use Rattle.rack.proofs.Lift.{layout-rests, lift-accepts}

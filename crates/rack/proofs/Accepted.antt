@@ -24,7 +24,7 @@ use Rattle.rack.specs.Refusal.{PatternOver, TwoJoin, FinalLeft, SystemOv
 use Rattle.rack.specs.declared.Case.{Case}
 
 -- the smallest number at which a test passes is one at which it passes
-first-hit : (n i : ℕ) (f : ℕ → Bool) → firstFrom i n f < i + n → T (f (firstFrom i n f))
+pub first-hit : (n i : ℕ) (f : ℕ → Bool) → firstFrom i n f < i + n → T (f (firstFrom i n f))
 unfolding firstFrom
 first-hit zero i f h = absurd (omega arith)
 first-hit (suc n) i f h = go (f i) refl (first-hit n (suc i) f) h

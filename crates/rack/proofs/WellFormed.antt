@@ -102,31 +102,31 @@ number-small Absent = omega arith
 
 -- ---- what a reading keeps, at the stage s; a kind that is still to come has left no numbers
 
-record SystemKept (s : ℕ) (n : Net) (c : Arcs) (p : Pairs) : Type 0 where
-  net : 1 ≤ s → NetFits 16 (n .places) (n .cap) (n .first)
-  arcs : ArcsFit 16 48 (n .places) (c .count) (c .labels) (c .pre) (c .post)
-  no-arcs : s ≤ 0 → c .count ≡ 0
-  pairs : PairsFit (c .count) p
+pub record SystemKept (s : ℕ) (n : Net) (c : Arcs) (p : Pairs) : Type 0 where
+  pub net : 1 ≤ s → NetFits 16 (n .places) (n .cap) (n .first)
+  pub arcs : ArcsFit 16 48 (n .places) (c .count) (c .labels) (c .pre) (c .post)
+  pub no-arcs : s ≤ 0 → c .count ≡ 0
+  pub pairs : PairsFit (c .count) p
 
-record PatternKept (s : ℕ) (n : PatternNet) (c : PatternArcs) (b : Bounds) : Type 0 where
-  net : 5 ≤ s → NetFits 8 (n .places) (n .cap) (n .first)
-  links : ArcsFit 8 16 (n .places) (c .count) (c .labels) (c .pre) (c .post)
-  no-links : s ≤ 4 → c .count ≡ 0
-  bounds : BoundsFit (n .places) (n .cap) b
-  no-bounds : s ≤ 4 → b .count ≡ 0
-  bounds-some : 7 ≤ s → 1 ≤ b .count
+pub record PatternKept (s : ℕ) (n : PatternNet) (c : PatternArcs) (b : Bounds) : Type 0 where
+  pub net : 5 ≤ s → NetFits 8 (n .places) (n .cap) (n .first)
+  pub links : ArcsFit 8 16 (n .places) (c .count) (c .labels) (c .pre) (c .post)
+  pub no-links : s ≤ 4 → c .count ≡ 0
+  pub bounds : BoundsFit (n .places) (n .cap) b
+  pub no-bounds : s ≤ 4 → b .count ≡ 0
+  pub bounds-some : 7 ≤ s → 1 ≤ b .count
 
-record SeenKept (s : ℕ) (o : Observable) (l : Log) : Type 0 where
-  flags : FlagsFit (o .flags)
-  log : LogFits (o .flags) l
-  no-log : s ≤ 7 → l .count ≡ 0
+pub record SeenKept (s : ℕ) (o : Observable) (l : Log) : Type 0 where
+  pub flags : FlagsFit (o .flags)
+  pub log : LogFits (o .flags) l
+  pub no-log : s ≤ 7 → l .count ≡ 0
 
-record Kept (s : ℕ) (c : Case) : Type 0 where
-  system : SystemKept s (c .net) (c .arcs) (c .pairs)
-  pattern : PatternKept s (c .pattern) (c .links) (c .bounds)
-  seen : SeenKept s (c .observable) (c .log)
+pub record Kept (s : ℕ) (c : Case) : Type 0 where
+  pub system : SystemKept s (c .net) (c .arcs) (c .pairs)
+  pub pattern : PatternKept s (c .pattern) (c .links) (c .bounds)
+  pub seen : SeenKept s (c .observable) (c .log)
 
-start-kept : Kept 0 zeroCase
+pub start-kept : Kept 0 zeroCase
 unfolding zeroCase
 start-kept =
     record {
@@ -183,7 +183,7 @@ module _ {s : ℕ} (s′ : ℕ) where
   log-waits g k = record { flags = k .flags; log = k .log; no-log = λ _. k .no-log g }
 
 -- a right record of any kind keeps all of it
-keeps : (m : Mark) (f : List ℕ) (s : ℕ) (c : Case) (a : ℕ) → Timely m s → FieldsAre m c f a → Kept s c → Kept (stage (numberOf m)) (added m c f a)
+pub keeps : (m : Mark) (f : List ℕ) (s : ℕ) (c : Case) (a : ℕ) → Timely m s → FieldsAre m c f a → Kept s c → Kept (stage (numberOf m)) (added m c f a)
 unfolding stage ntSays ptSays trSays pxSays prSays obSays qfSays lgSays
 keeps Nt f s c a t w k =
     record {

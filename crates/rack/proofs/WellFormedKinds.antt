@@ -51,8 +51,12 @@ module _ {most count top : ℕ} {l : List ℕ} (s : SlotsFit most count top l) w
 
 -- ---- rows
 
-next-row : (n w : ℕ) → (n + 1) * w ≡ n * w + w
+pub next-row : (n w : ℕ) → (n + 1) * w ≡ n * w + w
 next-row n w = rw (add-one n) (suc-mul n w)
+
+-- row t ends where a later row may begin
+pub rows-apart : (w : ℕ) {t n : ℕ} → t < n → t * w + w ≤ n * w
+rows-apart w {t} {n} h = subst (λ (k : ℕ). k ≤ n * w) (suc-mul t w) (mul-le-mul-right w h)
 
 pub rows-none : (width most places top : ℕ) → RowsFit width most 0 places top (replicate (most * width) 0)
 rows-none width most places top =
@@ -82,12 +86,10 @@ module _ {width most count places top : ℕ} {rows : List ℕ} (r : RowsFit widt
       }
     where
       other : (i : ℕ) → ((x : ℕ) → x < places → i ≡ count * width + x → ⊥) → getD (marked (count * width) l rows) i 0 ≡ getD rows i 0
-      other i n = marked-other (count * width) 0 places l rows i (of-true (rising 0 places l) rises) n
+      other i n = marked-other (count * width) 0 places l rows i rises n
 
-  row-fits : (x : List ℕ) → count < most → places ≤ width → length x ≡ places → count * width + length x ≤ length rows
-  row-fits x room few n =
-      let m : (count + 1) * width ≤ most * width = mul-le-mul-right width (omega arith) in
-      omega (arith, r .long, next-row count width)
+  pub row-fits : (x : List ℕ) → count < most → places ≤ width → length x ≡ places → count * width + length x ≤ length rows
+  row-fits x room few n = omega (arith, r .long, rows-apart width room)
 
   -- one row more, put whole
   pub rows-put : (x : List ℕ) → count < most → places ≤ width → length x ≡ places → ((j : ℕ) → j < length x → getD x j 0 ≤ top)

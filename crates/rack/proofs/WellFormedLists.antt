@@ -1,4 +1,5 @@
--- Lists as the reader leaves them: marked rows, lists filled up with zeros, stretches put into a list, each element by element. Assumes nothing.
+-- Lists as the reader leaves them: lists that rise, marked rows, lists filled up with zeros, stretches put into a list, each element by
+-- element. Assumes nothing.
 use Prim.Native.Nat.{ℕ, zero, suc, _+_, _*_, _-_, _%_, _≤_, _<_}
 use mathlib.Core.Path.{_≡_, refl, sym, ap, _∙_, subst, subst₂}
 use mathlib.Core.Bool.{Bool, true, false, _&&_}
@@ -6,11 +7,11 @@ use mathlib.Core.List.{List, [], _∷_, _++_}
 use native.Mathlib.Nat.{not-suc-le-zero, le-of-suc-le-suc, add-suc, suc-add, add-zero, mul-add-mod-self-right, mod-eq-of-lt}
 use native.Mathlib.Omega.{arith}
 use lib.ListN.{length, getD, take, drop, set, replicate, length-append, length-drop, length-set, length-replicate, List·getD-append}
-use lib.Seq.{length-take-le, getD-append-add, getD-take, getD-drop, getD-set-other}
-use lib.Dec.{T, leb, ltb, ltb→lt}
+use lib.Seq.{take-at, length-take-le, getD-append-add, getD-take, getD-drop, getD-set-other}
+use lib.Dec.{T, leb, ltb, leb→le, ltb→lt}
 use borrow.Author.Tests.{ltb-true, ltb-false}
 use Rattle.walks.specs.Below.{allBelow, every, tableFrom}
-use Rattle.walks.proofs.Tests.{and-left, and-right, and-both}
+use Rattle.walks.proofs.Tests.{and-left, and-right, and-both, is-true, of-true}
 use Rattle.rack.specs.Bytes.{part, filled, put, rising, marked}
 
 -- ---- zeros, stretches, tests
@@ -41,6 +42,25 @@ pub same-column : (w t s p x : ℕ) → p < w → x < w → t * w + p ≡ s * w 
 same-column w t s p x h k e =
     sym (mod-eq-of-lt h) ∙ sym (mul-add-mod-self-right t w p) ∙ ap (λ (i : ℕ). i % w) e ∙ mul-add-mod-self-right s w x ∙ mod-eq-of-lt k
 
+-- ---- a list that rises
+
+module _ (low b x : ℕ) (l : List ℕ) (r : rising low b (x ∷ l) ≡ true) where
+  low-first : T (leb low x && (ltb x b && rising (x + 1) b l))
+  unfolding rising
+  low-first = of-true _ r
+
+  high-first : T (ltb x b && rising (x + 1) b l)
+  high-first = and-right (leb low x) (ltb x b && rising (x + 1) b l) low-first
+
+  pub head-low : low ≤ x
+  head-low = leb→le low x (and-left (leb low x) (ltb x b && rising (x + 1) b l) low-first)
+
+  pub head-high : x < b
+  head-high = ltb→lt x b (and-left (ltb x b) (rising (x + 1) b l) high-first)
+
+  pub tail-rises : rising (x + 1) b l ≡ true
+  tail-rises = is-true _ (and-right (ltb x b) (rising (x + 1) b l) high-first)
+
 -- ---- one store
 
 module _ (P : ℕ → Type 0) where
@@ -63,13 +83,12 @@ length-marked base [] d = refl
 length-marked base (x ∷ l) d = length-marked base l (set d (base + x) 1) ∙ length-set d (base + x) 1
 
 -- places that the list's numbers do not lead to are as they were
-pub marked-other : (base low b : ℕ) (l d : List ℕ) (p : ℕ) → T (rising low b l) → ((x : ℕ) → x < b → p ≡ base + x → ⊥) → getD (marked base l d) p 0 ≡ getD d p 0
-unfolding marked rising
+pub marked-other : (base low b : ℕ) (l d : List ℕ) (p : ℕ) → rising low b l ≡ true → ((x : ℕ) → x < b → p ≡ base + x → ⊥) → getD (marked base l d) p 0 ≡ getD d p 0
+unfolding marked
 marked-other base low b [] d p r n = refl
 marked-other base low b (x ∷ l) d p r n =
-    let s : T (ltb x b && rising (x + 1) b l) = and-right (leb low x) (ltb x b && rising (x + 1) b l) r in
-    marked-other base (x + 1) b l (set d (base + x) 1) p (and-right (ltb x b) (rising (x + 1) b l) s) n
-    ∙ getD-set-other d (base + x) p 1 0 (n x (ltb→lt x b (and-left (ltb x b) (rising (x + 1) b l) s)))
+    marked-other base (x + 1) b l (set d (base + x) 1) p (tail-rises low b x l r) n
+    ∙ getD-set-other d (base + x) p 1 0 (n x (head-high low b x l r))
 
 -- ---- a list filled up with zeros
 
@@ -77,6 +96,11 @@ module _ (w : ℕ) (l : List ℕ) where
   pub length-filled : length l ≤ w → length (filled w l) ≡ w
   unfolding filled
   length-filled h = simp (length-append, length-replicate) (omega arith)
+
+  -- the list is read back
+  pub filled-back : (n : ℕ) → length l ≡ n → take n (filled w l) ≡ l
+  unfolding filled
+  filled-back n e = take-at l (replicate (w - length l) 0) n e
 
   pub filled-in : (i : ℕ) → i < length l → getD (filled w l) i 0 ≡ getD l i 0
   unfolding filled

@@ -1,42 +1,25 @@
 -- Arcs read from TR and PX records: rows of width w, of which the first ones are read and the rest are zeros, spell the records again.
 -- Assumes nothing.
-use mathlib.Core.Path.{_≡_, refl, sym, ap, ap₂, _∙_, subst}
+use mathlib.Core.Path.{_≡_, refl, sym, ap₂}
 use mathlib.Core.Bool.{true}
 use mathlib.Core.List.{List, _∷_, _++_}
 use Prim.Native.Nat.{ℕ, _+_, _*_, _≤_, _<_}
 use native.Mathlib.Omega.{arith}
-use native.Mathlib.Numerals.{add-one}
-use native.Mathlib.Nat.{suc-mul, mul-le-mul-right}
-use lib.ListN.{length, getD, set, length-set}
+use lib.ListN.{set}
 use lib.Seq.{getD-set-same, getD-set-other}
 use Rattle.rack.specs.Bytes.{byte, rising, marked, listAt, listEnd}
 use Rattle.rack.specs.Records.{ArcsIs, arcsEnd}
 use Rattle.rack.specs.Writing.{listed, counted, upTo, cell}
+use Rattle.rack.specs.WellFormed.{RowsFit, ArcsFit}
+use Rattle.rack.proofs.WellFormedLists.{marked-other}
+use Rattle.rack.proofs.WellFormedKinds.{rows-apart}
 use Rattle.writer.specs.Puts.{arcBytes}
-use Rattle.writer.proofs.Rows.{row-back, listed-ext, length-marked, marked-other}
+use Rattle.writer.proofs.Rows.{row-back, listed-ext}
 use Rattle.writer.proofs.Spells.{Spells, then, one, spells-as, list-spells}
 use Rattle.writer.proofs.Letters.{Letters, letters-spell}
 use Rattle.writer.proofs.Repeats.{upTo-more}
 
--- row t ends where a later row may begin
-pub rows-apart : (w : ℕ) {t n : ℕ} → t < n → t * w + w ≤ n * w
-rows-apart w {t} {n} h = subst (λ (k : ℕ). k ≤ n * w) (suc-mul t w) (mul-le-mul-right w h)
-
--- rows of width w with room for most of them: count are read, and beyond them stand zeros
-pub record RowsRead (w most count : ℕ) (rows : List ℕ) : Type 0 where
-  pub long : length rows ≡ most * w
-  pub zeros : (p : ℕ) → count * w ≤ p → getD rows p 0 ≡ 0
-
-module _ (w most places count : ℕ) (rows l : List ℕ) (small : places ≤ w) (r : RowsRead w most count rows) (rises : rising 0 places l ≡ true) where
-  -- one row more
-  pub rows-more : RowsRead w most (count + 1) (marked (count * w) l rows)
-  rows-more =
-      let n : (count + 1) * w ≡ count * w + w = ap (λ (k : ℕ). k * w) (add-one count) ∙ suc-mul count w in
-      record {
-        long = length-marked (count * w) l rows ∙ r .long;
-        zeros = λ p h. marked-other (count * w) 0 places l rows p rises (λ x xb e. omega arith) ∙ r .zeros p (omega arith);
-      }
-
+module _ (w most places count : ℕ) (rows l : List ℕ) (small : places ≤ w) (r : RowsFit w most count places 1 rows) (rises : rising 0 places l ≡ true) where
   -- the rows before it are as they were
   pub row-old : (t : ℕ) → t < count → listed 0 w (cell (marked (count * w) l rows) (t * w)) ≡ listed 0 w (cell rows (t * w))
   row-old t h =
@@ -45,17 +28,10 @@ module _ (w most places count : ℕ) (rows l : List ℕ) (small : places ≤ w) 
 
   -- the row is read back as the list
   pub row-new : count < most → listed 0 w (cell (marked (count * w) l rows) (count * w)) ≡ l
-  row-new h = row-back w (count * w) places l rows rises small (omega (arith, rows-apart w h, r .long)) (r .zeros)
-
--- count arc records are read
-pub record ArcsRead (w most count : ℕ) (labels pre post : List ℕ) : Type 0 where
-  pub few : count ≤ most
-  pub labelled : length labels ≡ most
-  pub inputs : RowsRead w most count pre
-  pub outputs : RowsRead w most count post
+  row-new h = row-back w (count * w) places l rows rises small (omega (arith, rows-apart w h, r .long)) (r .beyond)
 
 module _ (x y w most places count : ℕ) (labels pre post f : List ℕ) (a : ℕ) (small : places ≤ w)
-    (r : ArcsRead w most count labels pre post) (g : ArcsIs most places count f a) where
+    (r : ArcsFit w most places count labels pre post) (g : ArcsIs most places count f a) where
   abbrev labels′ : List ℕ
   labels′ = set labels count (byte f (a + 2))
 
@@ -64,16 +40,6 @@ module _ (x y w most places count : ℕ) (labels pre post f : List ℕ) (a : ℕ
 
   abbrev post′ : List ℕ
   post′ = marked (count * w) (listAt f (listEnd f (a + 3))) post
-
-  -- one record more
-  pub arcs-more : ArcsRead w most (count + 1) labels′ pre′ post′
-  arcs-more =
-      record {
-        few = omega (arith, g .few);
-        labelled = length-set labels count (byte f (a + 2)) ∙ r .labelled;
-        inputs = rows-more w most places count pre (listAt f (a + 3)) small (r .inputs) (g .inputs .rises);
-        outputs = rows-more w most places count post (listAt f (listEnd f (a + 3))) small (r .outputs) (g .outputs .rises);
-      }
 
   arc-old : (t : ℕ) → t < count → arcBytes x y w labels′ pre′ post′ t ≡ arcBytes x y w labels pre post t
   arc-old t h =
@@ -89,7 +55,7 @@ module _ (x y w most places count : ℕ) (labels pre post f : List ℕ) (a : ℕ
   -- and its bytes stand in the file
   pub arc-spells : Letters x y f a → Spells f a (arcBytes x y w labels′ pre′ post′ count) (arcsEnd f a)
   arc-spells le =
-      let l = getD-set-same labels count (byte f (a + 2)) 0 (omega (arith, r .labelled, g .few)) in
+      let l = getD-set-same labels count (byte f (a + 2)) 0 (omega (arith, r .names .long, g .few)) in
       let i = row-new w most places count pre (listAt f (a + 3)) small (r .inputs) (g .inputs .rises) (g .few) in
       let o = row-new w most places count post (listAt f (listEnd f (a + 3))) small (r .outputs) (g .outputs .rises) (g .few) in
       spells-as (sym (ap₂ (λ (n : ℕ) (m : List ℕ). x ∷ y ∷ n ∷ m) l (ap₂ (λ (m n : List ℕ). counted m ++ counted n) i o)))

@@ -3,18 +3,14 @@
 use mathlib.Core.Path.{_≡_, refl, sym, ap, _∙_}
 use mathlib.Core.Bool.{Bool, true, false}
 use mathlib.Core.List.{List, [], _∷_, _++_, append-nil}
-use Prim.Native.Nat.{ℕ, zero, suc, _+_, _<_}
+use Prim.Native.Nat.{ℕ, zero, suc, _+_}
 use native.Mathlib.Omega.{arith}
 use native.Mathlib.Numerals.{add-one}
 use native.Mathlib.Nat.{add-suc, suc-add, add-zero}
-use lib.ListN.{length, getD, take, length-append}
-use lib.Seq.{take-suc}
+use lib.ListN.{length, length-append}
 use lib.Dec.{eqb}
 use Rattle.walks.specs.Below.{pick}
 use Rattle.rack.specs.Writing.{listed}
-
-pub take-more : (s : List ℕ) (i : ℕ) → i < length s → take i s ++ (getD s i 0 ∷ []) ≡ take (i + 1) s
-take-more s i h = sym (ap (λ (k : ℕ). take k s) (add-one i) ∙ take-suc s i 0 h)
 
 -- place p, if it holds 1
 here : (ℕ → ℕ) → ℕ → List ℕ

@@ -6,32 +6,11 @@ use Prim.Native.Nat.{ℕ, _+_, _≤_, _<_}
 use native.Mathlib.Omega.{arith}
 use native.Mathlib.Nat.{add-zero}
 use native.Mathlib.Numerals.{add-one}
-use lib.ListN.{length, getD, take, drop, set, length-append, length-drop, length-set, take-append-drop, List·getD-append}
-use lib.Seq.{length-take-le, getD-take, getD-append-add, take-at, drop-append-add, drop-drop, set-split}
+use lib.ListN.{length, take, drop, set, length-append, length-set, take-append-drop}
+use lib.Seq.{length-take-le, take-at, drop-append-add, drop-drop, set-split}
 use Rattle.rack.specs.Bytes.{put}
 use Rattle.rack.specs.Outcome.{holding}
 use Rattle.writer.specs.Puts.{Puts}
-
-module _ (l : List ℕ) (at : ℕ) (x : List ℕ) (fits : at + length x ≤ length l) where
-  pub put-long : length (put l at x) ≡ length l
-  unfolding put
-  put-long =
-      let n = length-take-le at l (omega arith) in
-      omega (arith, length-append (take at l) (x ++ drop (at + length x) l), length-append x (drop (at + length x) l), length-drop (at + length x) l)
-
-  pub put-before : (p : ℕ) → p < at → getD (put l at x) p 0 ≡ getD l p 0
-  unfolding put
-  put-before p h =
-      let n = length-take-le at l (omega arith) in
-      List·getD-append (take at l) (x ++ drop (at + length x) l) 0 p (omega arith) ∙ getD-take at l p 0 h
-
-  pub put-in : (p : ℕ) → p < length x → getD (put l at x) (at + p) 0 ≡ getD x p 0
-  unfolding put
-  put-in p h =
-      let n = length-take-le at l (omega arith) in
-      ap (λ (k : ℕ). getD (take at l ++ (x ++ drop (at + length x) l)) (k + p) 0) (sym n)
-      ∙ getD-append-add (take at l) (x ++ drop (at + length x) l) p 0
-      ∙ List·getD-append x (drop (at + length x) l) 0 p h
 
 -- ---- from the front
 

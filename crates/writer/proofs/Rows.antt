@@ -1,7 +1,7 @@
 -- A strictly rising list and its row of 0 and 1 stand for each other: the list is read back off its row.
 -- Assumes nothing.
 use mathlib.Core.Path.{_≡_, refl, sym, ap, _∙_, subst}
-use mathlib.Core.Bool.{Bool, true, false, true≢false, _&&_, _||_, or-true, or-false}
+use mathlib.Core.Bool.{Bool, true, false, _||_, or-true, or-false}
 use mathlib.Core.List.{List, [], _∷_}
 use Prim.Native.Nat.{ℕ, zero, suc, _+_, _≤_, _<_}
 use native.Mathlib.Omega.{arith}
@@ -9,40 +9,21 @@ use native.Mathlib.Numerals.{add-one}
 use native.Mathlib.Nat.{add-suc, suc-add, add-zero}
 use lib.ListN.{length, getD, set, length-set}
 use lib.Seq.{getD-set-same, getD-set-other}
-use lib.Dec.{leb, ltb, eqb}
-use borrow.Author.Tests.{leb-true, ltb-true, ltb-false, eqb-true, eqb-false, lt-ltb, le-leb, ne-eqb}
+use lib.Dec.{ltb, eqb}
+use borrow.Author.Tests.{ltb-true, ltb-false, eqb-true, eqb-false, lt-ltb, le-leb, ne-eqb}
 use Rattle.rack.specs.Bytes.{rising, marked}
 use Rattle.rack.specs.Writing.{listed}
+use Rattle.rack.proofs.WellFormedLists.{head-low, head-high, tail-rises, marked-other}
 use Rattle.walks.specs.Below.{pick}
 
 abbrev pub has : ℕ → List ℕ → Bool
 has q [] = false
 has q (x ∷ xs) = eqb q x || has q xs
 
-and-left : (a b : Bool) → (a && b) ≡ true → a ≡ true
-and-left true b e = refl
-and-left false b e = absurd (true≢false (sym e))
-
-and-right : (a b : Bool) → (a && b) ≡ true → b ≡ true
-and-right true b e = e
-and-right false b e = absurd (true≢false (sym e))
-
 module _ (low b x : ℕ) (xs : List ℕ) (r : rising low b (x ∷ xs) ≡ true) where
-  pub head-low : low ≤ x
-  unfolding rising
-  head-low = leb-true low x (and-left (leb low x) _ r)
-
-  pub head-high : x < b
-  unfolding rising
-  head-high = ltb-true x b (and-left (ltb x b) _ (and-right (leb low x) _ r))
-
-  pub tail-rises : rising (x + 1) b xs ≡ true
-  unfolding rising
-  tail-rises = and-right (ltb x b) _ (and-right (leb low x) _ r)
-
   pub rises-from : (i : ℕ) → i ≤ x → rising i b (x ∷ xs) ≡ true
   unfolding rising
-  rises-from i h = simp (le-leb i x h, lt-ltb x b head-high) tail-rises
+  rises-from i h = simp (le-leb i x h, lt-ltb x b (head-high low b x xs r)) (tail-rises low b x xs r)
 
 rising-nil : (j b : ℕ) → rising j b [] ≡ true
 unfolding rising
@@ -102,19 +83,6 @@ listed-has zero i b [] g z r h w = refl
 listed-has zero i b (x ∷ xs) g z r h w = absurd (omega (arith, head-low i b x xs r, head-high i b x xs r, add-zero i))
 listed-has (suc n) i b [] g z r h w = step-nil n b g z (λ i l r h w. listed-has n i b l g z r h w) i h w
 listed-has (suc n) i b (x ∷ xs) g z r h w = step-cons n b g z (λ i l r h w. listed-has n i b l g z r h w) i x xs r h w
-
-pub length-marked : (base : ℕ) (l d : List ℕ) → length (marked base l d) ≡ length d
-unfolding marked
-length-marked base [] d = refl
-length-marked base (x ∷ xs) d = length-marked base xs (set d (base + x) 1) ∙ length-set d (base + x) 1
-
--- places outside the row are as they were
-pub marked-other : (base low b : ℕ) (l d : List ℕ) (p : ℕ) → rising low b l ≡ true → ((x : ℕ) → x < b → p ≡ base + x → ⊥) → getD (marked base l d) p 0 ≡ getD d p 0
-unfolding marked
-marked-other base low b [] d p r n = refl
-marked-other base low b (x ∷ xs) d p r n =
-    marked-other base (x + 1) b xs (set d (base + x) 1) p (tail-rises low b x xs r) n
-    ∙ getD-set-other d (base + x) p 1 0 (n x (head-high low b x xs r))
 
 -- the row's ones are those it had and the list's numbers
 pub marked-has : (base low b : ℕ) (l d : List ℕ) (q : ℕ) → rising low b l ≡ true → base + b ≤ length d

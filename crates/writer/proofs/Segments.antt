@@ -11,9 +11,10 @@ use lib.Dec.{T, eqb, eqb→eq}
 use Rattle.walks.proofs.Tests.{or-cases}
 use Rattle.rack.specs.Writing.{upTo, ntBytes, trBytes, prBytes, obBytes, ptBytes, pxBytes, qfBytes, lgBytes, enBytes, bytesOf}
 use Rattle.rack.specs.declared.Case.{Case}
+use Rattle.rack.proofs.WellFormed.{stage}
 use Rattle.writer.proofs.Repeats.{upTo-none, upTo-skip}
 use Rattle.writer.proofs.Spells.{Spells}
-use Rattle.writer.proofs.TableRule.{passed, repeats, reachable, InOrder}
+use Rattle.writer.proofs.TableRule.{repeats, reachable, InOrder}
 
 -- the bytes of all records of one kind, for each kind in the table's order
 unfoldable pub segments : Case → List (List ℕ)
@@ -34,10 +35,10 @@ segment c j = getD (segments c) j []
 
 -- the bytes of the records read, the last of which has number k
 unfoldable pub soFar : ℕ → Case → List ℕ
-soFar k c = upTo (passed k) (segment c)
+soFar k c = upTo (stage k) (segment c)
 
 pub all-segments : (c : Case) → bytesOf c ≡ soFar 8 c
-unfolding bytesOf soFar passed segment segments upTo
+unfolding bytesOf soFar stage segment segments upTo
 all-segments c = simp append-assoc
 
 -- of the kinds from number n on nothing has come yet
@@ -64,10 +65,10 @@ module _ (c : Case) (n : ℕ) (u : Unread n c) where
       (or-cases (eqb j 1) (eqb j 2 || (eqb j 5 || eqb j 6)) t)
 
 -- where a mark of number m comes next, the kinds passed over have added nothing
-pub up-to-here : (f : List ℕ) (a k m : ℕ) (c : Case) → InOrder k m → Unread (passed k) c → soFar k c ≡ take a f → upTo (reachable m) (segment c) ≡ take a f
+pub up-to-here : (f : List ℕ) (a k m : ℕ) (c : Case) → InOrder k m → Unread (stage k) c → soFar k c ≡ take a f → upTo (reachable m) (segment c) ≡ take a f
 unfolding soFar
 up-to-here f a k m c o u e =
-    upTo-skip (passed k) (reachable m) (segment c) (o .least) (λ j l h. none-yet c (passed k) u j l (o .between j l h)) ∙ e
+    upTo-skip (stage k) (reachable m) (segment c) (o .least) (λ j l h. none-yet c (stage k) u j l (o .between j l h)) ∙ e
 
 -- a kind of which one record more has come: x before it, x′ with it
 pub join : {f : List ℕ} {a e : ℕ} {b : List ℕ} (h x x′ : List ℕ) → h ++ x ≡ take a f → x′ ≡ x ++ b → Spells f a b e → h ++ x′ ≡ take e f

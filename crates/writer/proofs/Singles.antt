@@ -1,25 +1,21 @@
 -- The records of which a case has one or of which each stands alone, NT, PT, OB, LG and PR, as they were read, spell their bytes again.
 -- Assumes nothing.
-use mathlib.Core.Path.{_≡_, refl, sym, ap, ap₂, _∙_}
+use mathlib.Core.Path.{_≡_, refl, sym, ap, ap₂}
 use mathlib.Core.List.{List, [], _∷_, _++_}
-use Prim.Native.Nat.{ℕ, zero, suc, _+_, _≤_, _<_}
+use Prim.Native.Nat.{ℕ, _+_, _<_}
 use native.Mathlib.Omega.{arith}
-use lib.ListN.{length, getD, take, replicate, length-set}
+use lib.ListN.{take, replicate}
 use lib.Seq.{getD-set-same, getD-set-other}
 use Rattle.rack.specs.Bytes.{byte, part, filled, listAt}
 use Rattle.rack.specs.Records.{NetIs, netEnd, ntSays, ptSays, PrIs, prEnd, prSays, ObIs, obEnd, obSays, LgIs, lgEnd, lgSays}
 use Rattle.rack.specs.Writing.{counted, upTo, ntBytes, prBytes, obBytes, ptBytes, lgBytes}
+use Rattle.rack.specs.WellFormed.{PairsFit}
 use Rattle.rack.specs.declared.Pairs.{Pairs}
+use Rattle.rack.proofs.WellFormedLists.{zeros}
 use Rattle.writer.proofs.Rows.{row-back}
 use Rattle.writer.proofs.Repeats.{upTo-more}
 use Rattle.writer.proofs.Spells.{Spells, then, one, two, spells-as, list-spells, kept-spells}
 use Rattle.writer.proofs.Letters.{Letters, letters-spell}
-
-pub zeros : (n p : ℕ) → _≡_ {A = ℕ} (getD {A = ℕ} (replicate n 0) p 0) 0
-zeros zero zero = refl
-zeros zero (suc p) = refl
-zeros (suc n) zero = refl
-zeros (suc n) (suc p) = zeros n p
 
 module _ (f : List ℕ) (a : ℕ) where
   -- ---- NT and PT
@@ -59,22 +55,7 @@ module _ (f : List ℕ) (a : ℕ) where
 
 -- ---- PR
 
-pub record PairsRead (c : Pairs) : Type 0 where
-  pub few : c .count ≤ 32
-  pub higher : length (c .higher) ≡ 32
-  pub lower : length (c .lower) ≡ 32
-
-module _ (transitions : ℕ) (c : Pairs) (f : List ℕ) (a : ℕ) (k : PairsRead c) (w : PrIs transitions c f a) where
-  -- one pair more
-  pub pairs-more : PairsRead (prSays c f a)
-  unfolding prSays
-  pairs-more =
-      record {
-        few = omega (arith, w .few);
-        higher = length-set (c .higher) (c .count) (byte f (a + 2)) ∙ k .higher;
-        lower = length-set (c .lower) (c .count) (byte f (a + 3)) ∙ k .lower;
-      }
-
+module _ (transitions : ℕ) (c : Pairs) (f : List ℕ) (a : ℕ) (k : PairsFit transitions c) (w : PrIs transitions c f a) where
   pair-old : (t : ℕ) → t < c .count → prBytes (prSays c f a) t ≡ prBytes c t
   unfolding prSays prBytes
   pair-old t h =
@@ -91,7 +72,7 @@ module _ (transitions : ℕ) (c : Pairs) (f : List ℕ) (a : ℕ) (k : PairsRead
   pub pair-spells : Letters 80 82 f a → Spells f a (prBytes (prSays c f a) (c .count)) (prEnd f a)
   unfolding prSays prBytes
   pair-spells le =
-      let x = getD-set-same (c .higher) (c .count) (byte f (a + 2)) 0 (omega (arith, k .higher, w .few)) in
-      let y = getD-set-same (c .lower) (c .count) (byte f (a + 3)) 0 (omega (arith, k .lower, w .few)) in
+      let x = getD-set-same (c .higher) (c .count) (byte f (a + 2)) 0 (omega (arith, k .highers .long, w .few)) in
+      let y = getD-set-same (c .lower) (c .count) (byte f (a + 3)) 0 (omega (arith, k .lowers .long, w .few)) in
       then (letters-spell f a 80 82 le (omega (arith, w .ends)))
       (two f (a + 2) (a + 3) (a + 4) _ _ (omega arith) (omega arith) (w .ends) (sym x) (sym y))

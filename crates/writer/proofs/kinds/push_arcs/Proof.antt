@@ -1,18 +1,16 @@
 -- `push_arcs` meets its contract. The invariant: t records are put, and row t begins at base. Assumes nothing.
-use mathlib.Core.Path.{_≡_, refl, sym, ap, ap₂, _∙_}
+use mathlib.Core.Path.{_≡_, refl, sym, ap, ap₂}
 use Prim.Native.Nat.{ℕ, _+_, _-_, _*_, _≤_, _<_}
 use mathlib.Core.List.{List, _∷_, _++_}
 use lib.ListN.{getD}
 use borrow.Author.Needs.{needs}
 use native.Mathlib.Omega.{arith}
-use native.Mathlib.Nat.{suc-mul}
-use native.Mathlib.Numerals.{add-one}
 use Rattle.rack.specs.Writing.{rowBytes, upTo}
+use Rattle.rack.proofs.WellFormedKinds.{next-row, rows-apart}
 use Rattle.writer.specs.Puts.{Puts, arcBytes}
 use Rattle.writer.proofs.Putting.{puts-none, puts-then, puts-as}
 use Rattle.writer.proofs.Lengths.{rows-few}
 use Rattle.writer.proofs.Repeats.{upTo-none, upTo-snoc}
-use Rattle.writer.proofs.ArcRows.{rows-apart}
 use Rattle.writer.proofs.kinds.push_arcs.Statement.{statement}
 use Rattle.writer.proofs.kinds.push_arcs.Tie as tie
 
@@ -67,9 +65,8 @@ loop-again c =
     let l = c .before .before .before .before .before .before .before .before .loop in
     let p = c .before .before .before .push-arc .ensures in
     let f = rows-few (a .pre .now) (a .post .now) (l .base) (a .width) in
-    let n : (l .t + 1) * a .width ≡ l .t * a .width + a .width = ap (λ (k : ℕ). k * a .width) (add-one (l .t)) ∙ suc-mul (l .t) (a .width) in
-    let m : (l .t + 1) * (5 + a .width + a .width) ≡ l .t * (5 + a .width + a .width) + (5 + a .width + a .width) =
-    ap (λ (k : ℕ). k * (5 + a .width + a .width)) (add-one (l .t)) ∙ suc-mul (l .t) (5 + a .width + a .width) in
+    let n = next-row (l .t) (a .width) in
+    let m = next-row (l .t) (5 + a .width + a .width) in
     let v = c .before .before .before .before .before .before .wide .ensures .0 in
     let rows : ℕ → List ℕ = λ b. rowBytes (a .pre .now) b (a .width) ++ rowBytes (a .post .now) b (a .width) in
     let e = ap₂ (λ (k b : ℕ). a .x ∷ a .y ∷ getD (a .labels .now) k 0 ∷ rows b) v (l .inv .1) in

@@ -6,7 +6,7 @@ use borrow.Author.Needs.{needs}
 use native.Mathlib.Omega.{arith}
 use Rattle.writer.specs.Puts.{Puts}
 use Rattle.writer.proofs.Putting.{puts-none, puts-then, puts-as}
-use Rattle.writer.proofs.Ones.{take-more}
+use Rattle.writer.proofs.Spells.{take-more}
 use Rattle.writer.proofs.pieces.push_part.Statement.{statement}
 use Rattle.writer.proofs.pieces.push_part.Tie as tie
 
