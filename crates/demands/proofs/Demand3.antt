@@ -2,11 +2,12 @@
 -- that meets the contract gives all explanations within the limit, each once, in the order of runs, truly marked, and then says the end.
 -- Assumes nothing.
 use Prim.Native.Nat.{ℕ, _≤_}
-use mathlib.Core.Path.{_≡_, refl, sym, ap, _∙_, subst}
+use mathlib.Core.Path.{_≡_, refl, sym, _∙_, subst}
 use mathlib.Core.Bool.{Bool, true, false}
-use mathlib.Core.List.{List, [], _∷_, _++_}
+use mathlib.Core.List.{List, [], _∷_}
 use native.Mathlib.Omega.{arith}
 use lib.ListN.{length, take, drop}
+use lib.Seq.{take-append-seam}
 use lib.Dec.{T}
 use Rattle.walks.specs.Walk.{walks}
 use Rattle.walks.specs.Order.{before}
@@ -34,11 +35,7 @@ use Rattle.demands.proofs.Upward.{Low, upward-induction}
 
 -- the front of a room that holds a run is the run
 front : (r room : List ℕ) → take (length r) (holding r room) ≡ r
-front r room = take-front r (drop (length r) room)
-  where
-    take-front : (r s : List ℕ) → take (length r) (r ++ s) ≡ r
-    take-front [] s = refl
-    take-front (t ∷ r) s = ap (λ (l : List ℕ). t ∷ l) (take-front r s)
+front r room = take-append-seam r (drop (length r) room)
 
 -- the numbers of a run are transitions of the case
 low-run : (c : Case) (r : List ℕ) (m : ProductMarking) → T (walks (fires c) (step c) m r) → Low (c .arcs .count) r

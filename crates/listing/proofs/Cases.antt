@@ -6,6 +6,7 @@ use mathlib.Core.List.{List, [], _∷_, _++_, List·Memᴰ, List·Memᴰ·head, 
 use mathlib.Core.Logic.{_⊎_, inl, inr, ⊎-elim}
 use native.Mathlib.Omega.{arith}
 use lib.ListN.{length, getD, take, drop, replicate}
+use lib.Seq.{take-append-seam}
 use Rattle.walks.specs.Below.{pick}
 use Rattle.walks.proofs.Grow.{split}
 use Rattle.rack.specs.Run.{logOf}
@@ -53,10 +54,6 @@ pub end-shown : {c : Case} {limit : ℕ} {asked : Asked} {room : List ℕ} {x : 
 end-shown {c} {limit} {asked} {room} {a = a} f g =
     subst (λ (y : Listed). Shown c limit asked room y a) (sym (g .0)) (subst (λ (y : List ℕ). Shown c limit asked room End y) (sym (g .1)) (end f))
 
-take-front : (r s : List ℕ) → take (length r) (r ++ s) ≡ r
-take-front [] s = refl
-take-front (t ∷ r) s = ap (λ (l : List ℕ). t ∷ l) (take-front r s)
-
 module _ (c : Case) (limit : ℕ) (asked : Asked) (out₀ out room : List ℕ) where
   -- a run that is found is within the limit
   short-of : (s : Sought) → limit ≤ 24 → SoughtIs c limit asked out₀ out s → Short s
@@ -71,7 +68,7 @@ module _ (c : Case) (limit : ℕ) (asked : Asked) (out₀ out room : List ℕ) w
     front : fronted out m room ≡ holding (f .run) room
     front =
         ap (λ (i : ℕ). fronted out i room) (sym (f .long)) ∙ ap (λ (l : List ℕ). take (length (f .run)) l ++ drop (length (f .run)) room) (f .is)
-        ∙ ap (λ (l : List ℕ). l ++ drop (length (f .run)) room) (take-front (f .run) (drop (length (f .run)) out₀))
+        ∙ ap (λ (l : List ℕ). l ++ drop (length (f .run)) room) (take-append-seam (f .run) (drop (length (f .run)) out₀))
 
     given-run : m ≤ length room → Shown c limit asked room x a
     given-run h = go k refl (g .fits h)

@@ -7,7 +7,7 @@ use native.Mathlib.Omega.{arith}
 use native.Mathlib.Numerals.{add-one}
 use borrow.Author.Count.{below-more}
 use lib.ListN.{length, getD, set, take, drop}
-use Rattle.room.specs.Says.{Says}
+use Rattle.walks.specs.Says.{Says}
 use Rattle.walks.specs.Below.{pick}
 use Rattle.rack.specs.declared.Listed.{Listed}
 use Rattle.rack.specs.declared.Listed.the-variants.{Matching, Other, End, Refused}

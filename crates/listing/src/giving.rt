@@ -5,7 +5,7 @@ ghost use mathlib.Core.Path.{_≡_};
 ghost use Prim.Native.Nat.{_≤_};
 ghost use lib.ListN.{length};
 ghost use Rattle.rack.specs.Outcome.{zeroed};
-ghost use Rattle.room.specs.Says.{Says};
+ghost use Rattle.walks.specs.Says.{Says};
 ghost use Rattle.listing.specs.Giving.{fronted, GiveSays, Short, GoodRun};
 
 // Copies the first m bytes of a run to the front of the room.

@@ -1,4 +1,3 @@
-pub mod Says
 pub mod Chains
 pub mod Rows
 pub mod Moves

@@ -2,7 +2,7 @@
 use engine::wide;
 use rack::SystemTransition;
 ghost use Prim.Native.Nat.{_<_};
-ghost use Rattle.pattern.specs.Says.{Says};
+ghost use Rattle.walks.specs.Says.{Says};
 ghost use Rattle.pattern.specs.Chains.{PairsKnown, OpenSays, Down, Round};
 
 // A transition that is to be marked next: a pair leads to it from a marked one, and it has no mark yet.

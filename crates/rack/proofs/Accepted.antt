@@ -59,6 +59,13 @@ one-follows c none q e j k h a b = go (trio j k)
     go (equal x) = x
     go (higher t) = absurd (none (record { at = q; label = e; one = k; other = j; reachable = h; two = ltb→lt k j t; one-joins = b; other-joins = a }))
 
+-- a pattern whose first tokens are within its cap stays within it
+pub pattern-within : (c : Case) → T (within 8 (c .pattern .cap) (c .pattern .first)) → (q : List ℕ) → PatternReaches c q → T (within 8 (c .pattern .cap) q)
+unfolding patternGoes
+pattern-within c small q h =
+    closed-reached (patternGoes c) (patternFired c) (λ x. T (within 8 (c .pattern .cap) x))
+    (λ x k w f. and-right (patternEnabled c x k) (within 8 (c .pattern .cap) (patternFired c x k)) f) (c .pattern .first) q small h
+
 module _ (c : Case) (kept : PatternOver c → ⊥) where
   -- no cap is passed in the pattern, by refusal 5
   pub pattern-capped : (q : List ℕ) (k : ℕ) → PatternReaches c q → T (patternEnabled c q k) → T (within 8 (c .pattern .cap) (patternFired c q k))
@@ -107,12 +114,6 @@ module _ (c : Case) (kept : PatternOver c → ⊥) where
   -- "The cap plays no part in the meaning of accepted cases, since refusals 5 and 9 show that it is never passed": what runs reach is what
   -- firings within the caps reach
   module _ (small : T (within 8 (c .pattern .cap) (c .pattern .first))) (under : SystemOver c → ⊥) where
-    pattern-within : (q : List ℕ) → PatternReaches c q → T (within 8 (c .pattern .cap) q)
-    unfolding patternGoes
-    pattern-within q h =
-        closed-reached (patternGoes c) (patternFired c) (λ x. T (within 8 (c .pattern .cap) x))
-        (λ x k w f. and-right (patternEnabled c x k) (within 8 (c .pattern .cap) (patternFired c x k)) f) (c .pattern .first) q small h
-
     system-within : (m : ProductMarking) (t : ℕ) → ProductReaches c m → T (firable c (m .system) t) → T (within 16 (c .net .cap) (step c m t .system))
     system-within m t h f =
         ⊎-elim (λ y. y) (λ y. absurd (under (record { at = m; by = t; reachable = h; firable-there = f; over = y }))) (true-or-not (within 16 (c .net .cap) (step c m t .system)))
@@ -124,7 +125,7 @@ module _ (c : Case) (kept : PatternOver c → ⊥) where
         let q = followed (m .pattern) (labelOf c t) (h .1) in (
           reaches-more (productGoes c) (step c) (start c) m t (h .0)
               (and-both (firable c (m .system) t) (within 16 (c .net .cap) (step c m t .system) && within 8 (c .pattern .cap) (step c m t .pattern)) f
-              (and-both (within 16 (c .net .cap) (step c m t .system)) (within 8 (c .pattern .cap) (step c m t .pattern)) (system-within m t (h .0) f) (pattern-within (follow c (m .pattern) (labelOf c t)) q))),
+              (and-both (within 16 (c .net .cap) (step c m t .system)) (within 8 (c .pattern .cap) (step c m t .pattern)) (system-within m t (h .0) f) (pattern-within c small (follow c (m .pattern) (labelOf c t)) q))),
           q,
         )
 

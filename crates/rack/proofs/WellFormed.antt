@@ -5,13 +5,15 @@ use mathlib.Core.Path.{_≡_, refl, subst}
 use mathlib.Core.Bool.{Bool, true, _&&_}
 use mathlib.Core.List.{List}
 use native.Mathlib.Omega.{arith}
-use lib.ListN.{length-replicate}
+use lib.ListN.{length, length-replicate}
+use lib.Seq.{length-take-le}
 use lib.Dec.{T, leb, eqb, leb→le}
 use Rattle.walks.specs.Below.{pick, implies, allBelow}
 use Rattle.walks.proofs.Tests.{and-left, and-right, given, of-true, below-at}
 use Rattle.rack.specs.Marks.{markAt, numberOf, follows, mayFollow}
 use Rattle.rack.specs.Records.{ntSays, ptSays, trSays, pxSays, prSays, obSays, qfSays, lgSays}
 use Rattle.rack.specs.Layout.{FieldsAre, added, zeroCase, Ending, whole, broken, Reads, done, wrong, next, ReadsAs}
+use Rattle.rack.specs.Run.{logOf}
 use Rattle.rack.specs.WellFormed.{NetFits, ArcsFit, PairsFit, FlagsFit, BoundsFit, LogFits, WellFormed}
 use Rattle.rack.specs.declared.Net.{Net}
 use Rattle.rack.specs.declared.Arcs.{Arcs}
@@ -314,3 +316,8 @@ reads-kept {f} (next {k = k} {a = a} {c = c} w r) h s =
 pub well-formed : {f : List ℕ} {c : Case} → ReadsAs f c → WellFormed c
 unfolding stage
 well-formed r = reads-kept (r .reads) (omega arith) start-kept
+
+-- the log of a well formed case is as long as its count says
+pub log-long : {c : Case} → WellFormed c → length (logOf c) ≡ c .log .count
+unfolding logOf
+log-long {c} w = let f = w .log .names in length-take-le (c .log .count) (c .log .labels) (omega (arith, f .long, f .few))

@@ -5,13 +5,12 @@ use mathlib.Core.Bool.{Bool, true}
 use mathlib.Core.List.{List}
 use Prim.Native.Nat.{ℕ, _+_, _-_, _≤_, _<_}
 use native.Mathlib.Omega.{arith}
-use lib.ListN.{length, take, replicate}
-use lib.Seq.{take-at}
+use lib.ListN.{length, take}
 use lib.Dec.{eqb}
 use borrow.Author.Tests.{eqb-true}
 use Rattle.walks.specs.Below.{implies, allBelow}
 use Rattle.walks.proofs.Tests.{below-at, given, of-true, is-true}
-use Rattle.rack.specs.Bytes.{byte, part, filled, listAt}
+use Rattle.rack.specs.Bytes.{byte, part, listAt}
 use Rattle.rack.specs.Marks.{markAt, numberOf, follows, mayFollow}
 use Rattle.rack.specs.Records.{lgEnd, lgSays}
 use Rattle.rack.specs.Layout.{FieldsAre, endAt, added, zeroCase, whole, Reads, done, next, ReadsAs}
@@ -19,7 +18,7 @@ use Rattle.rack.specs.CaseFileOutcome.{logStretch}
 use Rattle.rack.specs.declared.Case.{Case}
 use Rattle.rack.specs.declared.Mark.{Mark}
 use Rattle.rack.specs.declared.Mark.the-variants.{Nt, Tr, Pr, Ob, Pt, Px, Qf, Lg, En, Absent}
-use Rattle.reader.proofs.Stretches.{length-part}
+use Rattle.rack.proofs.WellFormedLists.{length-part, filled-back}
 
 -- EN comes after LG alone
 lg-first : ℕ → Bool
@@ -43,10 +42,6 @@ record Logged (f : List ℕ) (k : ℕ) (c : Case) (a : ℕ) : Type 0 where
 other : {f : List ℕ} {c : Case} {a : ℕ} (k : ℕ) → k < 7 → Logged f k c a
 other k h = record { number = omega arith; after-lg = λ e. absurd (omega arith); after-en = λ e. absurd (omega arith) }
 
-front : (w : ℕ) (l : List ℕ) (n : ℕ) → length l ≡ n → take n (filled w l) ≡ l
-unfolding filled
-front w l n e = take-at l (replicate (w - length l) 0) n e
-
 logged : (m : Mark) (f : List ℕ) (k : ℕ) (c : Case) (a : ℕ) → mayFollow k (numberOf m) ≡ true → FieldsAre m c f a → Logged f k c a → Logged f (numberOf m) (added m c f a) (endAt m c f a)
 unfolding lgSays
 logged Nt f k c a r w s = other 0 (omega arith)
@@ -59,7 +54,7 @@ logged Qf f k c a r w s = other 6 (omega arith)
 logged Lg f k c a r w s =
     let n = byte f (a + 2) in
     let d : lgEnd f a - n ≡ a + 2 + 1 = omega arith in
-    let e = front 40 (listAt f (a + 2)) n (length-part f (a + 2 + 1) n (w .ends)) in
+    let e = filled-back 40 (listAt f (a + 2)) n (length-part f (a + 2 + 1) n (w .ends)) in
     record { number = omega arith; after-lg = λ _. record { fits = omega arith; are = ap (λ (x : ℕ). part f x n) d ∙ sym e }; after-en = λ e. absurd (omega arith) }
 logged En f k c a r w s =
     let p : Stands f c a = s .after-lg (before-en k (s .number) r) in

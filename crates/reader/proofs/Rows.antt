@@ -1,21 +1,21 @@
 -- What goes into the case's slots: a copied list filled up with zeros, a strictly rising list in a row, a table put into a row.
 -- Assumes nothing.
 use mathlib.Core.Path.{_≡_, refl, sym, ap, _∙_}
-use mathlib.Core.Bool.{Bool, true, false, true≢false, _&&_}
+use mathlib.Core.Bool.{true}
 use mathlib.Core.List.{List, [], _∷_, _++_, append-assoc}
 use Prim.Native.Nat.{ℕ, zero, suc, _+_, _-_, _≤_, _<_}
 use native.Mathlib.Omega.{arith}
 use native.Mathlib.Numerals.{add-one}
-use native.Mathlib.Nat.{not-suc-le-zero, le-of-suc-le-suc, add-suc, suc-add, add-zero}
+use native.Mathlib.Nat.{not-suc-le-zero, le-of-suc-le-suc}
 use lib.ListN.{length, getD, take, drop, set, replicate}
 use lib.Seq.{take-all, paste, paste-suc}
-use lib.Dec.{leb, ltb}
-use borrow.Author.Tests.{ltb-true, lt-ltb}
+use borrow.Author.Tests.{le-leb, lt-ltb}
 use Rattle.walks.specs.Below.{tableFrom}
 use Rattle.rack.specs.Bytes.{byte, part, filled, put, rising, listAt, ListIs}
 use Rattle.rack.specs.Records.{ArcsIs}
 use Rattle.rack.specs.Outcome.{holding}
-use Rattle.reader.proofs.Stretches.{length-part, getD-part}
+use Rattle.rack.proofs.WellFormedLists.{length-part, head-low, head-high, tail-rises, length-table, table-at}
+use Rattle.reader.proofs.Stretches.{getD-part}
 
 -- ---- copied to the front
 
@@ -52,27 +52,6 @@ stretch-fills w f a n h = copied-fills w (part f a n) n (length-part f a n h)
 
 -- ---- a list that rises
 
-and-left : (a b : Bool) → (a && b) ≡ true → a ≡ true
-and-left true b e = refl
-and-left false b e = absurd (true≢false (sym e))
-
-and-right : (a b : Bool) → (a && b) ≡ true → b ≡ true
-and-right true b e = e
-and-right false b e = absurd (true≢false (sym e))
-
-module _ (low b x : ℕ) (xs : List ℕ) (r : rising low b (x ∷ xs) ≡ true) where
-  head-low : leb low x ≡ true
-  unfolding rising
-  head-low = and-left (leb low x) _ r
-
-  head-high : x < b
-  unfolding rising
-  head-high = ltb-true x b (and-left (ltb x b) _ (and-right (leb low x) _ r))
-
-  tail-rises : rising (x + 1) b xs ≡ true
-  unfolding rising
-  tail-rises = and-right (ltb x b) _ (and-right (leb low x) _ r)
-
 -- each of its numbers is below the bound
 pub rising-below : (low b : ℕ) (l : List ℕ) → rising low b l ≡ true → (j : ℕ) → j < length l → getD l j 0 < b
 rising-below low b [] r j h = absurd (not-suc-le-zero h)
@@ -85,7 +64,7 @@ unfolding rising
 rising-wider low b w [] h r = refl
 rising-wider low b w (x ∷ xs) h r =
     let u = head-high low b x xs r in
-    simp (head-low low b x xs r, lt-ltb x w (omega arith)) (rising-wider (x + 1) b w xs h (tail-rises low b x xs r))
+    simp (le-leb low x (head-low low b x xs r), lt-ltb x w (omega arith)) (rising-wider (x + 1) b w xs h (tail-rises low b x xs r))
 
 list-wider : {b w : ℕ} {f : List ℕ} {a : ℕ} → b ≤ w → ListIs b f a → ListIs w f a
 list-wider {b} {w} {f} {a} h l = record { starts = l .starts; ends = l .ends; rises = rising-wider 0 b w (listAt f a) h (l .rises) }
@@ -103,17 +82,6 @@ list-below {b} {f} {a} l j h =
     omega (arith, u, e)
 
 -- ---- a table put into a row
-
-length-table : (i n : ℕ) (g : ℕ → ℕ) → length (tableFrom i n g) ≡ n
-unfolding tableFrom
-length-table i zero g = refl
-length-table i (suc n) g = ap suc (length-table (suc i) n g)
-
-table-at : (i n : ℕ) (g : ℕ → ℕ) (j : ℕ) → j < n → getD (tableFrom i n g) j 0 ≡ g (i + j)
-unfolding tableFrom
-table-at i zero g j h = absurd (not-suc-le-zero h)
-table-at i (suc n) g zero h = ap g (sym (add-zero i))
-table-at i (suc n) g (suc j) h = table-at (suc i) n g j (le-of-suc-le-suc h) ∙ ap g (suc-add i j ∙ sym (add-suc i j))
 
 module _ (d : List ℕ) (base n : ℕ) (g : ℕ → ℕ) (fits : base + n ≤ length d) where
   -- one entry more

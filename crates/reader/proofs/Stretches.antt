@@ -6,30 +6,28 @@ use mathlib.Core.List.{List, [], _∷_}
 use Prim.Native.Nat.{ℕ, suc, _+_, _≤_, _<_}
 use native.Mathlib.Omega.{arith}
 use native.Mathlib.Numerals.{add-one}
-use lib.ListN.{length, getD, drop, set, length-drop, drop-of-length-le}
-use lib.Seq.{drop-cons, getD-take, getD-drop, length-take-le}
+use lib.ListN.{length, getD, drop, set, drop-of-length-le}
+use lib.Seq.{drop-cons, getD-take, getD-drop}
 use lib.Dec.{leb, ltb}
 use borrow.Author.Tests.{lt-ltb, le-ltb, le-leb, lt-leb}
 use Rattle.walks.specs.Below.{every}
 use Rattle.rack.specs.Bytes.{part, rising, marked}
+use Rattle.rack.proofs.WellFormedLists.{length-part}
 
 module _ (f : List ℕ) (from n : ℕ) (fits : from + n ≤ length f) where
-  pub length-part : length (part f from n) ≡ n
-  length-part = length-take-le n (drop from f) (simp length-drop (omega arith))
-
   pub getD-part : (j : ℕ) → j < n → getD (part f from n) j 0 ≡ getD f (from + j) 0
   getD-part j h = getD-take n (drop from f) j 0 h ∙ getD-drop from f j 0
 
   -- what is left at j begins with the byte there
   part-cons : (j : ℕ) → j < n → drop j (part f from n) ≡ getD f (from + j) 0 ∷ drop (j + 1) (part f from n)
   part-cons j h =
-      drop-cons (part f from n) j 0 (omega (arith, length-part))
+      drop-cons (part f from n) j 0 (omega (arith, length-part f from n fits))
       ∙ ap (λ (x : ℕ). x ∷ drop (suc j) (part f from n)) (getD-part j h)
       ∙ ap (λ (k : ℕ). getD f (from + j) 0 ∷ drop k (part f from n)) (sym (add-one j))
 
   part-nil : (j : ℕ) → n ≤ j → drop j (part f from n) ≡ []
   part-nil j h =
-      let l : length (part f from n) ≤ j = omega (arith, length-part) in
+      let l : length (part f from n) ≤ j = omega (arith, length-part f from n fits) in
       drop-of-length-le (part f from n) l
 
   -- ---- a test that every byte has to pass

@@ -6,7 +6,7 @@ use mathlib.Core.List.{List, [], _∷_}
 use native.Mathlib.Omega.{arith}
 use borrow.Author.Tests.{eqb-true}
 use lib.ListN.{length, take}
-use lib.Seq.{length-take-le, take-length}
+use lib.Seq.{take-length}
 use lib.Dec.{T, eqb}
 use Rattle.walks.specs.Walk.{walks}
 use Rattle.walks.proofs.Tests.{and-left, and-both, is-true}
@@ -19,7 +19,7 @@ use Rattle.rack.specs.Reach.{productWithin}
 use Rattle.rack.specs.Refusal.{speaks, rests, also, none}
 use Rattle.rack.specs.Replay.{goesOn, count, explains, saysExplains}
 use Rattle.rack.specs.ReplayOutcome.{replayOf, replayRefused, ReplayIs, replayed, refused}
-use Rattle.rack.specs.Run.{fires, runs, logOf}
+use Rattle.rack.specs.Run.{fires, runs}
 use Rattle.rack.specs.WellFormed.{WellFormed}
 use Rattle.rack.specs.declared.Case.{Case}
 use Rattle.rack.specs.declared.Reading.{Reading}
@@ -27,7 +27,7 @@ use Rattle.rack.specs.declared.Replayed.{Replayed}
 use Rattle.rack.specs.declared.Outcome.the-variants as Outcome
 use Rattle.rack.proofs.Lift.{layout-rests, lift-refuses, lift-accepts}
 use Rattle.rack.proofs.Replaying.{count-is}
-use Rattle.rack.proofs.WellFormed.{well-formed}
+use Rattle.rack.proofs.WellFormed.{well-formed, log-long}
 use Rattle.reader.proofs.Given.{given-whole}
 use Rattle.engine.specs.Parts.{productOf}
 use Rattle.pattern.specs.Outcome.{CheckedSays}
@@ -48,10 +48,6 @@ walks-fires c (t ∷ r) m u =
     and-both (fires c m t) (walks (fires c) (step c) (step c m t) r) (and-left (fires c m t) (productWithin c (step c m t)) f) (walks-fires c r (step c m t) u′)
 
 module _ {c : Case} (w : WellFormed c) where
-  log-long : length (logOf c) ≡ c .log .count
-  unfolding logOf
-  log-long = let f = w .log .names in length-take-le (c .log .count) (c .log .labels) (omega (arith, f .long, f .few))
-
   -- a run that ended explains the log exactly if it leads to the log's end
   ended-explains : (run : List ℕ) (budget : ℕ) → (eqb (count c run budget) (length run) && eqb (positionOf c (take (count c run budget) run)) (c .log .count)) ≡ saysExplains c run budget
   unfolding saysExplains explains runs
@@ -62,7 +58,7 @@ module _ {c : Case} (w : WellFormed c) where
           let all : take (count c run budget) run ≡ run = ap (λ (k : ℕ). take k run) (eqb-true (count c run budget) (length run) e) ∙ take-length run in
           let u : runs c run ≡ true =
           is-true (runs c run) (walks-fires c run (start c) (subst (λ (l : List ℕ). T (walks (goesOn c) (step c) (start c) l)) all (count-is c run budget .fired))) in
-          rw (all, u) (position-tells c log-long (w .log .names .few) run)
+          rw (all, u) (position-tells c (log-long w) (w .log .names .few) run)
       go false e = refl
 
   -- ---- the answer for a case whose nets have passed

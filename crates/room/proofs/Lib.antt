@@ -1,5 +1,5 @@
 -- Laws on plain values that the proofs of this crate and of others cite.
-pub mod Splits
+pub mod Scans
 pub mod RowLaws
 pub mod OrderLaws
 pub mod SortLaws

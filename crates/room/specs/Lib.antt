@@ -1,4 +1,3 @@
-pub mod Says
 pub mod Rows
 pub mod Order
 pub mod Bits

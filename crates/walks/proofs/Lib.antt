@@ -1,4 +1,5 @@
 pub mod Tests
+pub mod Says
 pub mod Closed
 pub mod Explore
 pub mod Few

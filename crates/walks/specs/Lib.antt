@@ -7,3 +7,4 @@ pub mod Queue
 pub mod Search
 pub mod Back
 pub mod Later
+pub mod Says

@@ -17,15 +17,15 @@ use Rattle.rack.specs.declared.Reading.{Reading}
 use Rattle.rack.specs.declared.Written.the-variants as Writer
 use Rattle.rack.proofs.OneReading.{one-case, reads-or-breaks}
 use Rattle.writer.specs.Limits.{Limits}
-use Rattle.writer.specs.Tells.{Tells}
-use Rattle.writer.proofs.Telling.{tells-as}
+use Rattle.walks.specs.Says.{Says}
+use Rattle.walks.proofs.Says.{says-same}
 use Rattle.writer.proofs.RoundTrip.{written-read, read-limits}
 
 -- ---- reading back
 
 -- a file that is read whole reads as its case and as no other
-pub read-whole : {f : List ℕ} {r : Reading} {c : Case} {b : Bool} → ReaderIs f r → r .outcome ≡ Reader.Whole → Tells b (r .case ≡ c) → Tells b (ReadsAs f c)
-read-whole {f} {r} {c} (read w) e t = tells-as t (λ q. subst (ReadsAs f) q w) (λ w′. one-case w w′)
+pub read-whole : {f : List ℕ} {r : Reading} {c : Case} {b : Bool} → ReaderIs f r → r .outcome ≡ Reader.Whole → Says b (r .case ≡ c) → Says b (ReadsAs f c)
+read-whole {f} {r} {c} (read w) e t = says-same t (λ q. subst (ReadsAs f) q w) (λ w′. one-case w w′)
 read-whole (refused w) e t = let z : _≡_ {A = ℕ} 0 1 = cc in absurd (omega arith)
 
 -- one that is refused reads as none
@@ -34,8 +34,8 @@ read-refused (read w) e w′ = let z : _≡_ {A = ℕ} 0 1 = cc in omega arith
 read-refused (refused (speaks p)) e w = reads-or-breaks w p
 
 -- a case is writable exactly if its bytes read as it
-pub read-back : {f : List ℕ} {c : Case} {b : Bool} → f ≡ bytesOf c → Tells b (ReadsAs f c) → Tells b (Writable c)
-read-back {f} {c} e t = tells-as t (λ w. record { file = f; reads = w }) (λ w. subst (λ (g : List ℕ). ReadsAs g c) (sym e) (written-read w))
+pub read-back : {f : List ℕ} {c : Case} {b : Bool} → f ≡ bytesOf c → Says b (ReadsAs f c) → Says b (Writable c)
+read-back {f} {c} e t = says-same t (λ w. record { file = f; reads = w }) (λ w. subst (λ (g : List ℕ). ReadsAs g c) (sym e) (written-read w))
 
 -- only if its counts are within the limits
 pub over-limits : {c : Case} → (Limits c → ⊥) → Writable c → ⊥

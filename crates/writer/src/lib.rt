@@ -28,11 +28,11 @@ ghost use Rattle.rack.specs.Writing.{bytesOf};
 ghost use Rattle.rack.specs.CaseFileOutcome.{WriterIs};
 ghost use Rattle.writer.specs.Limits.{Limits};
 ghost use Rattle.writer.specs.Puts.{Puts, systemBytes, patternBytes};
-ghost use Rattle.writer.specs.Tells.{Tells};
+ghost use Rattle.walks.specs.Says.{Says};
 
 // Whether the counts of a case are within the limits.
 fn within_limits(c: Case) -> bool
-    ensures { λ r. ⌜ Tells r (Limits c) ⌝ }
+    ensures { λ r. ⌜ Says r (Limits c) ⌝ }
 {
     if 16 < c.net.places {
         return false;
@@ -92,7 +92,7 @@ fn push_case(room: &mut [u8], c: Case) -> usize
 
 // Whether a file reads as the case c.
 fn reads_as(file: &[u8], c: Case) -> bool
-    ensures { λ r. ⌜ Tells r (ReadsAs (now (file .entry)) c) ⌝ }
+    ensures { λ r. ⌜ Says r (ReadsAs (now (file .entry)) c) ⌝ }
 {
     let reading = read_case(file);
     let outcome = reading.outcome;

@@ -1,6 +1,6 @@
 -- `reads_as` meets its contract. Assumes nothing.
 use borrow.Author.Needs.{needs}
-use Rattle.writer.proofs.Telling.{tells-no}
+use Rattle.walks.proofs.Says.{says-no}
 use Rattle.writer.proofs.Outcomes.{read-whole, read-refused}
 use Rattle.writer.proofs.reads_as.Statement.{statement}
 use Rattle.writer.proofs.reads_as.Tie as tie
@@ -21,7 +21,7 @@ returns : tie.Need-returns
 returns c = read-whole (c .before .before .before .read-case .ensures) (c .before .enum-told .given .1) (c .same-case .ensures)
 
 returns-2 : tie.Need-returns-2
-returns-2 c = tells-no (read-refused (c .before .before .read-case .ensures) (c .enum-told2 .given .1))
+returns-2 c = says-no (read-refused (c .before .before .read-case .ensures) (c .enum-told2 .given .1))
 
 pub reads-as-spec : {M : Type 1} → statement M
 reads-as-spec =

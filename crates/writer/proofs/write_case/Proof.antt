@@ -5,7 +5,8 @@ use native.Mathlib.Omega.{arith}
 use borrow.Author.Tests.{not-true}
 use lib.Seq.{length-take-le}
 use Rattle.writer.proofs.Putting.{puts-as, front-length, front-take, front-holds}
-use Rattle.writer.proofs.Telling.{tells-not, part-holds}
+use Rattle.walks.proofs.Says.{says-not}
+use Rattle.writer.proofs.Telling.{part-holds}
 use Rattle.writer.proofs.Outcomes.{read-back, over-limits, answer-written, answer-short, answer-unwritable}
 use Rattle.writer.proofs.write_case.Statement.{statement}
 use Rattle.writer.proofs.write_case.Tie as tie
@@ -16,7 +17,7 @@ within-limits-requires c κs = search needs
 returns : tie.Need-returns
 returns c =
     let w = c .before .within-limits in
-    answer-unwritable (over-limits (tells-not (w .ensures) (not-true (w .result) (c .if1 .taken))))
+    answer-unwritable (over-limits (says-not (w .ensures) (not-true (w .result) (c .if1 .taken))))
 
 slice-aggregate-push-case : tie.Need-slice-aggregate-push-case
 slice-aggregate-push-case c = search needs
@@ -39,7 +40,7 @@ returns-2 : tie.Need-returns-2
 returns-2 c =
     let p = c .before .before .before .before .push-case .ensures in
     let r = c .before .reads-as in
-    answer-unwritable (tells-not (read-back (front-take p) (r .ensures)) (not-true (r .result) (c .if2 .taken)))
+    answer-unwritable (says-not (read-back (front-take p) (r .ensures)) (not-true (r .result) (c .if2 .taken)))
 
 returns-3 : tie.Need-returns-3
 returns-3 c =

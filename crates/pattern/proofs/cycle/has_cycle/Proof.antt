@@ -3,9 +3,9 @@ use Prim.Native.Nat.{ℕ, _-_, _≤_, _<_}
 use native.Mathlib.Omega.{arith}
 use borrow.Author.Count.{below-more}
 use borrow.Author.Needs.{needs}
-use Rattle.pattern.specs.Says.{Says}
+use Rattle.walks.specs.Says.{Says}
 use Rattle.pattern.specs.Chains.{PairBack}
-use Rattle.pattern.proofs.Answers.{says-yes, says-no, says-not}
+use Rattle.walks.proofs.Says.{says-yes, says-no, says-not}
 use Rattle.pattern.proofs.cycle.has_cycle.Statement.{statement}
 use Rattle.pattern.proofs.cycle.has_cycle.Tie as tie
 

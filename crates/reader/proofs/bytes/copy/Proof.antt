@@ -6,7 +6,8 @@ use mathlib.Core.Path.{_≡_, refl, sym, ap, _∙_}
 use lib.ListN.{length, set, length-set}
 use Rattle.rack.specs.Bytes.{part}
 use lib.Seq.{paste, paste-zero}
-use Rattle.reader.proofs.Stretches.{length-part, getD-part}
+use Rattle.rack.proofs.WellFormedLists.{length-part}
+use Rattle.reader.proofs.Stretches.{getD-part}
 use Rattle.reader.proofs.Rows.{front-turn}
 use Rattle.reader.proofs.bytes.copy.Statement.{statement}
 use Rattle.reader.proofs.bytes.copy.Tie as tie

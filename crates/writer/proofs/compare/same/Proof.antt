@@ -7,7 +7,7 @@ use lib.Seq.{ext-getD}
 use borrow.Author.Count.{below-more}
 use borrow.Author.Needs.{needs}
 use native.Mathlib.Omega.{arith}
-use Rattle.writer.proofs.Telling.{tells-yes, tells-no}
+use Rattle.walks.proofs.Says.{says-yes, says-no}
 use Rattle.writer.proofs.compare.same.Statement.{statement}
 use Rattle.writer.proofs.compare.same.Tie as tie
 
@@ -18,7 +18,7 @@ abbrev μ-loop : tie.MeasureT-loop
 μ-loop a b i₀ i = length a - i
 
 returns : tie.Need-returns Inv-loop μ-loop
-returns c = tells-no (λ e. c .if1 .taken (ap length e))
+returns c = says-no (λ e. c .if1 .taken (ap length e))
 
 loop-holds : tie.Need-loop-holds Inv-loop μ-loop
 loop-holds c = (c .if1 .left, omega arith, λ k h. absurd (omega arith))
@@ -32,7 +32,7 @@ shared-slice-read-if2-2 c = search needs
 returns-2 : tie.Need-returns-2 Inv-loop μ-loop
 returns-2 c =
     let l = c .before .before .before .before .loop in
-    tells-no (λ e. c .if2 .taken (ap (λ (x : List ℕ). getD x (l .i) 0) e))
+    says-no (λ e. c .if2 .taken (ap (λ (x : List ℕ). getD x (l .i) 0) e))
 
 add-i : tie.Need-add-i Inv-loop μ-loop
 add-i c = search needs
@@ -49,7 +49,7 @@ returns-3 : tie.Need-returns-3 Inv-loop μ-loop
 returns-3 c =
     let l = c .before .loop in
     let a = c .before .before .before .args in
-    tells-yes (ext-getD 0 (a .a .now) (a .b .now) (l .inv .0) (λ k h. l .inv .2 k (omega arith)))
+    says-yes (ext-getD 0 (a .a .now) (a .b .now) (l .inv .0) (λ k h. l .inv .2 k (omega arith)))
 
 pub same-spec : {M : Type 1} → statement M
 same-spec =

@@ -2,7 +2,7 @@
 use mathlib.Core.Path.{ap}
 use borrow.Author.Needs.{needs}
 use Rattle.rack.specs.declared.Bounds.{Bounds}
-use Rattle.writer.proofs.Telling.{tells-as}
+use Rattle.walks.proofs.Says.{says-same}
 use Rattle.writer.proofs.Structs.{eq-bounds}
 use Rattle.writer.proofs.compare.same_bounds.Statement.{statement}
 use Rattle.writer.proofs.compare.same_bounds.Tie as tie
@@ -23,7 +23,7 @@ same-lists-requires : tie.Need-same-lists-requires
 same-lists-requires c κs = search needs
 
 returns : tie.Need-returns
-returns c = tells-as (c .same-lists .ensures) (λ e. eq-bounds (e .0) (e .1) (e .2)) (λ e. (ap (λ (x : Bounds). x .count) e, ap (λ (x : Bounds). x .least) e, ap (λ (x : Bounds). x .most) e))
+returns c = says-same (c .same-lists .ensures) (λ e. eq-bounds (e .0) (e .1) (e .2)) (λ e. (ap (λ (x : Bounds). x .count) e, ap (λ (x : Bounds). x .least) e, ap (λ (x : Bounds). x .most) e))
 
 pub same-bounds-spec : {M : Type 1} → statement M
 same-bounds-spec =

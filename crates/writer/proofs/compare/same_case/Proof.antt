@@ -2,7 +2,8 @@
 use mathlib.Core.Path.{ap}
 use borrow.Author.Needs.{needs}
 use Rattle.rack.specs.declared.Case.{Case}
-use Rattle.writer.proofs.Telling.{tells-as, part-fails, part-holds}
+use Rattle.walks.proofs.Says.{says-same}
+use Rattle.writer.proofs.Telling.{part-fails, part-holds}
 use Rattle.writer.proofs.Structs.{eq-case}
 use Rattle.writer.proofs.compare.same_case.Statement.{statement}
 use Rattle.writer.proofs.compare.same_case.Tie as tie
@@ -68,7 +69,7 @@ returns-8 c =
     let links = part-holds links-told (c .before .before .before .if6 .left) in
     let bounds-told = c .before .before .same-bounds .ensures in
     let bounds = part-holds bounds-told (c .before .if7 .left) in
-    tells-as (c .same-log .ensures) (λ e. eq-case net arcs pairs observable pattern links bounds e) (λ e. ap (λ (x : Case). x .log) e)
+    says-same (c .same-log .ensures) (λ e. eq-case net arcs pairs observable pattern links bounds e) (λ e. ap (λ (x : Case). x .log) e)
 
 pub same-case-spec : {M : Type 1} → statement M
 same-case-spec =

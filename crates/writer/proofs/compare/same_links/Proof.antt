@@ -2,7 +2,8 @@
 use mathlib.Core.Path.{ap}
 use borrow.Author.Needs.{needs}
 use Rattle.rack.specs.declared.PatternArcs.{PatternArcs}
-use Rattle.writer.proofs.Telling.{tells-as, part-fails, part-holds}
+use Rattle.walks.proofs.Says.{says-same}
+use Rattle.writer.proofs.Telling.{part-fails, part-holds}
 use Rattle.writer.proofs.Structs.{eq-links}
 use Rattle.writer.proofs.compare.same_links.Statement.{statement}
 use Rattle.writer.proofs.compare.same_links.Tie as tie
@@ -37,7 +38,7 @@ same-lists-requires c κs = search needs
 returns-2 : tie.Need-returns-2
 returns-2 c =
     let p = part-holds (c .before .before .before .before .before .before .same .ensures) (c .before .before .before .before .before .if1 .left) in
-    tells-as (c .same-lists .ensures) (λ e. eq-links (e .0) (e .1) (e .2) p) (λ e. (ap (λ (x : PatternArcs). x .count) e, ap (λ (x : PatternArcs). x .labels) e, ap (λ (x : PatternArcs). x .pre) e))
+    says-same (c .same-lists .ensures) (λ e. eq-links (e .0) (e .1) (e .2) p) (λ e. (ap (λ (x : PatternArcs). x .count) e, ap (λ (x : PatternArcs). x .labels) e, ap (λ (x : PatternArcs). x .pre) e))
 
 pub same-links-spec : {M : Type 1} → statement M
 same-links-spec =

@@ -2,7 +2,7 @@
 use mathlib.Core.Path.{ap}
 use borrow.Author.Needs.{needs}
 use Rattle.rack.specs.declared.Log.{Log}
-use Rattle.writer.proofs.Telling.{tells-as}
+use Rattle.walks.proofs.Says.{says-same}
 use Rattle.writer.proofs.Structs.{eq-log}
 use Rattle.writer.proofs.compare.same_log.Statement.{statement}
 use Rattle.writer.proofs.compare.same_log.Tie as tie
@@ -17,7 +17,7 @@ same-list-requires : tie.Need-same-list-requires
 same-list-requires c κs = search needs
 
 returns : tie.Need-returns
-returns c = tells-as (c .same-list .ensures) (λ e. eq-log (e .0) (e .1)) (λ e. (ap (λ (x : Log). x .count) e, ap (λ (x : Log). x .labels) e))
+returns c = says-same (c .same-list .ensures) (λ e. eq-log (e .0) (e .1)) (λ e. (ap (λ (x : Log). x .count) e, ap (λ (x : Log). x .labels) e))
 
 pub same-log-spec : {M : Type 1} → statement M
 same-log-spec =

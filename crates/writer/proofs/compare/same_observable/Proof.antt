@@ -2,7 +2,7 @@
 use mathlib.Core.Path.{ap}
 use borrow.Author.Needs.{needs}
 use Rattle.rack.specs.declared.Observable.{Observable}
-use Rattle.writer.proofs.Telling.{tells-as}
+use Rattle.walks.proofs.Says.{says-same}
 use Rattle.writer.proofs.Structs.{eq-observable}
 use Rattle.writer.proofs.compare.same_observable.Statement.{statement}
 use Rattle.writer.proofs.compare.same_observable.Tie as tie
@@ -17,7 +17,7 @@ same-requires : tie.Need-same-requires
 same-requires c κs = search needs
 
 returns : tie.Need-returns
-returns c = tells-as (c .same .ensures) (λ e. eq-observable e) (λ e. ap (λ (x : Observable). x .flags) e)
+returns c = says-same (c .same .ensures) (λ e. eq-observable e) (λ e. ap (λ (x : Observable). x .flags) e)
 
 pub same-observable-spec : {M : Type 1} → statement M
 same-observable-spec =
