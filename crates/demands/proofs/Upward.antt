@@ -8,7 +8,7 @@ use native.Mathlib.Omega.{arith}
 use lib.ListN.{length}
 use lib.Dec.{T}
 use Rattle.walks.specs.Order.{smaller, before}
-use Rattle.walks.proofs.Order.{smaller-cases, before-cases}
+use Rattle.walks.proofs.Order.{smaller-cases, before-cases, no-smaller}
 
 -- every number of the run is below b
 abbrev pub Low : ℕ → List ℕ → Type 0
@@ -41,12 +41,8 @@ module _ (b : ℕ) where
           (λ (x : (d ≡ e) × T (smaller u s)). subst (λ (y : ℕ). P (y ∷ s)) (x .0) (rest s (omega arith) (v .1) (x .1)))
           (smaller-cases d e u s t)
 
-  nothing-larger : (s : List ℕ) → T (smaller [] s) → ⊥
-  unfolding smaller
-  nothing-larger s t = t
-
   larger-induction : (n : ℕ) (P : List ℕ → Type 0) → Sinks n P → Long P n
-  larger-induction zero P sinks [] e w = sinks [] e w (λ s q v t. absurd (nothing-larger s t))
+  larger-induction zero P sinks [] e w = sinks [] e w (λ s q v t. absurd (no-smaller s t))
   larger-induction zero P sinks (a ∷ r) e w = absurd (omega arith)
   larger-induction (suc n) P sinks [] e w = absurd (omega arith)
   larger-induction (suc n) P sinks (a ∷ r) e w = one-longer n (larger-induction n) P sinks b a (omega arith) (w .0) r (omega arith) (w .1)

@@ -5,7 +5,7 @@ use mathlib.Core.List.{List, [], _∷_, _++_}
 use lib.ListN.{length}
 use Rattle.rack.specs.Listing.{Asked, NextIs}
 use Rattle.rack.specs.Layout.{ReadsAs, BreaksAt}
-use Rattle.rack.specs.Refusal.{workRoom, NetsPass, GivenBad, Question, Speaks, Silent, FirstToSpeak, speaks, rests, work-room, limit, layout, given-run, lent-room}
+use Rattle.rack.specs.Refusal.{workRoom, NetsPass, GivenBad, Question, Speaks, Silent, FirstToSpeak, speaks, rests, work-room, limit, given-run, lent-room}
 use Rattle.rack.specs.NetChecks.{patternOrder, productOrder}
 use Rattle.rack.specs.Outcome.{zeroed}
 use Rattle.rack.specs.ListingOutcome.{ofListing, NextShort, NextFits, ListingIs}
