@@ -4,7 +4,7 @@ use rack::Net;
 use rack::PatternNet;
 use rack::Replayed;
 use rack::Stop;
-ghost use Prim.Native.Nat.{_+_, _≤_};
+ghost use Prim.Native.Nat.{_≤_};
 
 // A byte as a number.
 fn wide(x: u8) -> usize {
@@ -48,37 +48,52 @@ pub fn refused(number_of: u8, beside: usize) {
     line_end();
 }
 
-// Puts a blank and the digits of x from the place on, and answers the place behind them.
-fn spell(out: &mut [u8; 256], at: usize, x: u8) -> usize
-    requires { ⌜ at ≤ 252 ⌝ }
-    ensures { λ r. ⌜ r ≤ at + 4 ⌝ }
+// Puts a byte behind the first `used` ones; where there is no room for it, those are written and it becomes the first. Answers how many
+// there are then.
+fn push(out: &mut [u8; 256], used: usize, byte: u8) -> usize
+    requires { ⌜ used ≤ 256 ⌝ }
+    ensures { λ r. ⌜ r ≤ 256 ⌝ }
 {
-    out[at] = b' ';
-    if x < 10 {
-        out[at + 1] = b'0' + x;
-        return at + 2;
+    if used == 256 {
+        text(&out[..]);
+        out[0] = byte;
+        return 1;
     }
-    if x < 100 {
-        out[at + 1] = b'0' + x / 10;
-        out[at + 2] = b'0' + x % 10;
-        return at + 3;
-    }
-    out[at + 1] = b'0' + x / 100;
-    out[at + 2] = b'0' + x / 10 % 10;
-    out[at + 3] = b'0' + x % 10;
-    at + 4
+    out[used] = byte;
+    used + 1
 }
 
-// Numbers, each with a blank before it. They are put together in the lent bytes, and written when these are nearly full: a long run takes
-// few writes.
+// The same for one byte after the other.
+fn push_all(out: &mut [u8; 256], used: usize, bytes: &[u8]) -> usize
+    requires { ⌜ used ≤ 256 ⌝ }
+    ensures { λ r. ⌜ r ≤ 256 ⌝ }
+{
+    let mut end = used;
+    let mut i: usize = 0;
+    while i < bytes.len() {
+        end = push(out, end, bytes[i]);
+        i += 1;
+    }
+    end
+}
+
+// The same for a blank and the digits of a number.
+fn spell(out: &mut [u8; 256], used: usize, number_of: u8) -> usize
+    requires { ⌜ used ≤ 256 ⌝ }
+    ensures { λ r. ⌜ r ≤ 256 ⌝ }
+{
+    let mut digits = [0u8; 20];
+    let count = io::decimal(number_of as u64, &mut digits);
+    let end = push(out, used, b' ');
+    push_all(out, end, &digits[..count])
+}
+
+// Numbers, each with a blank before it. They are put together in the lent bytes, and written when these are full: a long run takes few
+// writes.
 fn spelled(numbers: &[u8], out: &mut [u8; 256]) {
     let mut used: usize = 0;
     let mut i: usize = 0;
     while i < numbers.len() {
-        if 252 < used {
-            text(first(out, used));
-            used = 0;
-        }
         used = spell(out, used, numbers[i]);
         i += 1;
     }

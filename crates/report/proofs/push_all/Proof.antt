@@ -1,0 +1,47 @@
+-- `report::push_all` is safe and ends. The invariant: what has been put together fits. Assumes nothing.
+use Prim.Native.Nat.{_≤_, _-_}
+use lib.ListN.{length}
+use borrow.Author.Needs.{needs}
+use Rattle.report.proofs.push_all.Statement.{statement}
+use Rattle.report.proofs.push_all.Tie as tie
+
+abbrev Inv-loop : tie.InvT-loop
+Inv-loop out₀ used bytes end₀ i₀ out end i = (i ≤ length bytes) × (end ≤ 256)
+
+abbrev μ-loop : tie.MeasureT-loop
+μ-loop out₀ used bytes end₀ i₀ out end i = length bytes - i
+
+loop-holds : tie.Need-loop-holds Inv-loop μ-loop
+loop-holds c = search needs
+
+shared-slice-read-push : tie.Need-shared-slice-read-push Inv-loop μ-loop
+shared-slice-read-push c = search needs
+
+push-requires : tie.Need-push-requires Inv-loop μ-loop
+push-requires c κs = search needs
+
+add-i : tie.Need-add-i Inv-loop μ-loop
+add-i c = search needs
+
+loop-less : tie.Need-loop-less Inv-loop μ-loop
+loop-less c = search needs
+
+loop-again : tie.Need-loop-again Inv-loop μ-loop
+loop-again c = search needs
+
+returns : tie.Need-returns Inv-loop μ-loop
+returns c = search needs
+
+pub push-all-spec : {M : Type 1} → statement M
+push-all-spec =
+    tie.close
+    (tie.spec
+    Inv-loop
+    μ-loop
+    loop-holds
+    shared-slice-read-push
+    push-requires
+    add-i
+    loop-less
+    loop-again
+    returns)
