@@ -26,7 +26,8 @@ use Rattle.rack.specs.Marks.{markOf, follows}
 use Rattle.rack.specs.Records.{ntSays, ptSays, trSays, pxSays, prSays, obSays, bounds, qfSays, observed, lgSays}
 use Rattle.rack.specs.Layout.{zeroCase, ReadsAs}
 use Rattle.rack.specs.Writing.{listed, upTo, ntBytes, trBytes, prBytes, obBytes, ptBytes, pxBytes, qfBytes, lgBytes, bytesOf}
-use Rattle.rack.specs.Refusal.{pairAt, lowerOf, GivenBad, NetsPass}
+use Rattle.rack.specs.Refusal.{pairAt, lowerOf, NetsPass}
+use Rattle.rack.specs.ListingOutcome.{GivenBad}
 use Rattle.rack.specs.Hub.{arc, hub, shortHub, Call, verdict, listing, Entry, Expected, faulty, safe, ambiguous, refused, Row, Judges, Lists, Answers, AllHold, hubTable}
 use Rattle.rack.specs.Hub as table
 use Rattle.rack.specs.Slips.{telling, noPairs, noLinks, chain, twoTokens, mustFollow, slipTable}
