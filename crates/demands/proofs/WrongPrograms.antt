@@ -85,8 +85,13 @@ passes =
     also (layout-rests (ofFile (bytesOf h4)) NoneSays NoneRests h4 h4-reads)
     (lift-accepts (ofFile (bytesOf h4)) NoneSays NoneRests h4 h4-reads {more = []} pattern-accept none)
 
+-- what the firings of a net compute with
+unfoldable netting : Unit {0}
+unfolding supplied enabledBy left firedBy capped within enabled fired pairs above blocks firable patternEnabled patternFired patternLabel allBelow anyBelow firstFrom tableFrom
+netting = tt
+
 three : count h4 (0 ∷ 2 ∷ 4 ∷ []) 10 ≡ 3
-unfolding hub arc count firings goesOn productWithin supplied enabledBy left firedBy capped within enabled fired pairs above blocks firable patternEnabled patternFired patternLabel labelOf joins follow start step allBelow anyBelow firstFrom tableFrom filled put marked
+unfolding netting hub arc count firings goesOn productWithin labelOf joins follow start step filled put marked
 three = refl
 
 module _ {x : Replayed} (is : ReplayIs (bytesOf h4) (0 ∷ 2 ∷ 4 ∷ []) 10 x) where
