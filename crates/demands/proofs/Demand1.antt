@@ -12,15 +12,14 @@ use Rattle.rack.specs.Run.{fires}
 use Rattle.rack.specs.Listing.{Asked}
 use Rattle.rack.specs.Layout.{zeroCase}
 use Rattle.rack.specs.Replay.{count, reached, reasonAfter, reason}
-use Rattle.rack.specs.Refusal.{Refuses, readerOrder, verdictOrder, listingOrder, writerOrder, replayOrder}
-use Rattle.rack.specs.Outcome.{ofFile, NoneShort, zeroed}
-use Rattle.rack.specs.CaseFileOutcome.{ReaderIs, ofCase, FileShort, FileEnough, WriterIs}
+use Rattle.rack.specs.Outcome.{zeroed}
+use Rattle.rack.specs.CaseFileOutcome.{ReaderRefuses, ReaderIs, WriterRefuses, WriterIs}
 use Rattle.rack.specs.CaseFileOutcome as file
-use Rattle.rack.specs.VerdictOutcome.{ofVerdict, RunShort, RunsFit, VerdictIs}
+use Rattle.rack.specs.VerdictOutcome.{VerdictRefuses, VerdictIs}
 use Rattle.rack.specs.VerdictOutcome as judge
-use Rattle.rack.specs.ListingOutcome.{ofListing, NextShort, NextFits, ListingIs}
+use Rattle.rack.specs.ListingOutcome.{ListingRefuses, ListingIs}
 use Rattle.rack.specs.ListingOutcome as list
-use Rattle.rack.specs.ReplayOutcome.{replayOf, replayRefused, ReplayIs}
+use Rattle.rack.specs.ReplayOutcome.{replayOf, replayRefused, ReplayRefuses, ReplayIs}
 use Rattle.rack.specs.ReplayOutcome as replay
 use Rattle.rack.specs.declared.Case.{Case}
 use Rattle.rack.specs.declared.Reading.{Reading}
@@ -50,9 +49,9 @@ demand-1-reader {f} {x} o =
       nothing-read = λ n m e. nothing n m o e;
     }
   where
-    only : {x : Reading} (n m : ℕ) → ReaderIs f x → x .outcome ≡ Reader.Refused n m → Refuses (ofFile f) NoneShort (Unit {0}) readerOrder n m
+    only : {x : Reading} (n m : ℕ) → ReaderIs f x → x .outcome ≡ Reader.Refused n m → ReaderRefuses f n m
     only n m (file.read r) e = let z : _≡_ {A = ℕ} 0 1 = cc in absurd (omega arith)
-    only n m (file.refused {n = a} {m = b} r) e = let d : a ≡ n = cc in let h : b ≡ m = cc in moved (λ i j. Refuses (ofFile f) NoneShort (Unit {0}) readerOrder i j) a b n m d h r
+    only n m (file.refused {n = a} {m = b} r) e = let d : a ≡ n = cc in let h : b ≡ m = cc in moved (ReaderRefuses f) a b n m d h r
 
     nothing : {x : Reading} (n m : ℕ) → ReaderIs f x → x .outcome ≡ Reader.Refused n m → x .case ≡ zeroCase
     nothing n m (file.read r) e = let z : _≡_ {A = ℕ} 0 1 = cc in absurd (omega arith)
@@ -64,9 +63,9 @@ pub demand-1-writer : {c : Case} {room : List ℕ} {x : Written} {a : List ℕ} 
 demand-1-writer {c} {room} {x} {a} o =
     record { refusal = λ n m. record { only = only n m o; whenever = λ r. writer-one o (file.refused r) .0 }; untouched = λ n m e. untouched n m o e }
   where
-    only : {x : Written} {a : List ℕ} (n m : ℕ) → WriterIs c room x a → x ≡ Writer.Refused n m → Refuses (ofCase c) (FileShort c room) (FileEnough c room) writerOrder n m
+    only : {x : Written} {a : List ℕ} (n m : ℕ) → WriterIs c room x a → x ≡ Writer.Refused n m → WriterRefuses c room n m
     only n m (file.written r) e = let z : _≡_ {A = ℕ} 0 1 = cc in absurd (omega arith)
-    only n m (file.refused {n = i} {m = j} r) e = let d : i ≡ n = cc in let h : j ≡ m = cc in moved (λ k l. Refuses (ofCase c) (FileShort c room) (FileEnough c room) writerOrder k l) i j n m d h r
+    only n m (file.refused {n = i} {m = j} r) e = let d : i ≡ n = cc in let h : j ≡ m = cc in moved (WriterRefuses c room) i j n m d h r
 
     untouched : {x : Written} {a : List ℕ} (n m : ℕ) → WriterIs c room x a → x ≡ Writer.Refused n m → a ≡ room
     untouched n m (file.written r) e = let z : _≡_ {A = ℕ} 0 1 = cc in absurd (omega arith)
@@ -75,14 +74,11 @@ demand-1-writer {c} {room} {x} {a} o =
 -- ---- verdict
 
 module _ (f matching other work : List ℕ) where
-  abbrev VerdictRefuses : ℕ → ℕ → Type 0
-  VerdictRefuses n m = Refuses (ofVerdict f work) (RunShort f matching other) (RunsFit f matching other) verdictOrder n m
-
-  verdict-only : {x : Judged} {a b w : List ℕ} (n m : ℕ) → VerdictIs f matching other work x a b w → x .verdict ≡ Verdict.Refused n m → VerdictRefuses n m
+  verdict-only : {x : Judged} {a b w : List ℕ} (n m : ℕ) → VerdictIs f matching other work x a b w → x .verdict ≡ Verdict.Refused n m → VerdictRefuses f matching other work n m
   verdict-only n m (judge.faulty g p u) e = let z : _≡_ {A = ℕ} 0 1 = cc in absurd (omega arith)
   verdict-only n m (judge.safe g p u) e = let z : _≡_ {A = ℕ} 0 1 = cc in absurd (omega arith)
   verdict-only n m (judge.ambiguous g p u) e = let z : _≡_ {A = ℕ} 0 1 = cc in absurd (omega arith)
-  verdict-only n m (judge.refused {n = i} {m = j} r) e = let d : i ≡ n = cc in let h : j ≡ m = cc in moved VerdictRefuses i j n m d h r
+  verdict-only n m (judge.refused {n = i} {m = j} r) e = let d : i ≡ n = cc in let h : j ≡ m = cc in moved (VerdictRefuses f matching other work) i j n m d h r
 
   verdict-untouched : {x : Judged} {a b w : List ℕ} (n m : ℕ) → VerdictIs f matching other work x a b w → x .verdict ≡ Verdict.Refused n m
       → (a ≡ matching) × ((b ≡ other) × ((x .matching ≡ 0) × (x .other ≡ 0)))
@@ -108,14 +104,11 @@ module _ (f matching other work : List ℕ) where
 -- ---- listing
 
 module _ (f : List ℕ) (limit : ℕ) (asked : Asked) (room work : List ℕ) where
-  abbrev ListingRefuses : ℕ → ℕ → Type 0
-  ListingRefuses n m = Refuses (ofListing f limit asked work) (NextShort f limit asked room) (NextFits f limit asked room) listingOrder n m
-
-  listing-only : {x : Listed} {a w : List ℕ} (n m : ℕ) → ListingIs f limit asked room work x a w → x ≡ Listing.Refused n m → ListingRefuses n m
+  listing-only : {x : Listed} {a w : List ℕ} (n m : ℕ) → ListingIs f limit asked room work x a w → x ≡ Listing.Refused n m → ListingRefuses f limit asked room work n m
   listing-only n m (list.matching g p u s) e = let z : _≡_ {A = ℕ} 0 1 = cc in absurd (omega arith)
   listing-only n m (list.other g p u s) e = let z : _≡_ {A = ℕ} 0 1 = cc in absurd (omega arith)
   listing-only n m (list.end g p u) e = let z : _≡_ {A = ℕ} 0 1 = cc in absurd (omega arith)
-  listing-only n m (list.refused {n = i} {m = j} r) e = let d : i ≡ n = cc in let h : j ≡ m = cc in moved ListingRefuses i j n m d h r
+  listing-only n m (list.refused {n = i} {m = j} r) e = let d : i ≡ n = cc in let h : j ≡ m = cc in moved (ListingRefuses f limit asked room work) i j n m d h r
 
   listing-untouched : {x : Listed} {a w : List ℕ} (n m : ℕ) → ListingIs f limit asked room work x a w → x ≡ Listing.Refused n m → a ≡ room
   listing-untouched n m (list.matching g p u s) e = let z : _≡_ {A = ℕ} 0 1 = cc in absurd (omega arith)
@@ -161,16 +154,13 @@ module _ (n m : ℕ) where
       no-reason (eqb k (length run)) (eqb k budget) (fires c (reached c run budget) (getD run k 0)) e
 
 module _ (f run : List ℕ) (budget : ℕ) where
-  abbrev ReplayRefuses : ℕ → ℕ → Type 0
-  ReplayRefuses n m = Refuses (ofFile f) NoneShort (Unit {0}) replayOrder n m
-
-  replay-only : {x : Replayed} (n m : ℕ) → ReplayIs f run budget x → x .stop ≡ Replay.Refused n m → ReplayRefuses n m × (x ≡ replayRefused n m)
+  replay-only : {x : Replayed} (n m : ℕ) → ReplayIs f run budget x → x .stop ≡ Replay.Refused n m → ReplayRefuses f n m × (x ≡ replayRefused n m)
   unfolding replayRefused
   replay-only n m (replay.replayed {c = c} g p) e = absurd (never-refused n m c run budget e)
   replay-only n m (replay.refused {n = i} {m = j} r) e =
       let d : i ≡ n = cc in
       let h : j ≡ m = cc in
-      (moved ReplayRefuses i j n m d h r, moved (λ a b. replayRefused i j ≡ replayRefused a b) i j n m d h refl)
+      (moved (ReplayRefuses f) i j n m d h r, moved (λ a b. replayRefused i j ≡ replayRefused a b) i j n m d h refl)
 
   pub demand-1-replay : {x : Replayed} → ReplayIs f run budget x → ReplayTaken f x
   unfolding replayRefused

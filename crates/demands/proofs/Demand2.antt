@@ -7,9 +7,9 @@ use mathlib.Core.List.{List}
 use lib.ListN.{length}
 use Rattle.rack.specs.Verdict.{FirstOfKind, AllOfKind, NoneExplains}
 use Rattle.rack.specs.Layout.{ReadsAs}
-use Rattle.rack.specs.Refusal.{workRoom, NetsPass, verdictOrder, Refuses}
+use Rattle.rack.specs.Refusal.{workRoom, NetsPass}
 use Rattle.rack.specs.Outcome.{holding}
-use Rattle.rack.specs.VerdictOutcome.{ofVerdict, RunShort, RunsFit, VerdictIs}
+use Rattle.rack.specs.VerdictOutcome.{RunsFit, VerdictRefuses, VerdictIs}
 use Rattle.rack.specs.VerdictOutcome as outcome
 use Rattle.rack.specs.declared.Case.{Case}
 use Rattle.rack.specs.declared.Judged.{Judged}
@@ -62,7 +62,7 @@ module _ {f : List ℕ} {c : Case} (reads : ReadsAs f c) (ok : NetsPass c) (matc
       }
 
   -- a refusal of such a file is 10, and no run explains its log
-  none-explains : {n m : ℕ} → Refuses (ofVerdict f work) (RunShort f matching other) (RunsFit f matching other) verdictOrder n m → NoneExplains c
+  none-explains : {n m : ℕ} → VerdictRefuses f matching other work n m → NoneExplains c
   none-explains x s y = not-both f matching other work x (accepts reads ok matching other work enough s y fits)
 
   no-of : (k j : Bool) → (j ≡ k → ⊥) → AllOfKind c j → No c k

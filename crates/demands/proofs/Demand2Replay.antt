@@ -18,9 +18,7 @@ use Rattle.rack.specs.Reach.{productWithin}
 use Rattle.rack.specs.Run.{fires, end}
 use Rattle.rack.specs.Replay.{goesOn, count, reached, reasonAfter, reason, explains, saysExplains}
 use Rattle.rack.specs.Layout.{ReadsAs}
-use Rattle.rack.specs.Refusal.{Accepts, replayOrder}
-use Rattle.rack.specs.Outcome.{ofFile}
-use Rattle.rack.specs.ReplayOutcome.{replayOf, ReplayIs, replayed}
+use Rattle.rack.specs.ReplayOutcome.{replayOf, ReplayAccepts, ReplayIs, replayed}
 use Rattle.rack.specs.declared.Case.{Case}
 use Rattle.rack.specs.declared.Stop.the-variants.{RunEnded, BudgetSpent, NotFirable, CapPassed}
 use Rattle.rack.specs.declared.Replayed.{Replayed}
@@ -88,6 +86,6 @@ module _ (c : Case) (run : List ℕ) (budget : ℕ) where
       }
 
 -- DEMAND 2 for replay
-pub demand-2-replay : {f run : List ℕ} {budget : ℕ} {c : Case} {x : Replayed} → ReadsAs f c → Accepts (ofFile f) (Unit {0}) replayOrder → ReplayIs f run budget x → Fired c run budget x
+pub demand-2-replay : {f run : List ℕ} {budget : ℕ} {c : Case} {x : Replayed} → ReadsAs f c → ReplayAccepts f → ReplayIs f run budget x → Fired c run budget x
 demand-2-replay {f} {run} {budget} {c} {x} reads passes o =
     subst (Fired c run budget) (replay-one (replayed {c = c} passes reads) o) (fired c run budget)

@@ -18,9 +18,9 @@ use Rattle.rack.specs.Follow.{ProductMarking, start, step}
 use Rattle.rack.specs.Run.{fires, runs, Explains, matches}
 use Rattle.rack.specs.Listing.{Asked, from-start, after, later, NextIs, EndIs}
 use Rattle.rack.specs.Layout.{ReadsAs}
-use Rattle.rack.specs.Refusal.{workRoom, NetsPass, GivenBad, listingOrder, Refuses}
+use Rattle.rack.specs.Refusal.{workRoom, NetsPass}
 use Rattle.rack.specs.Outcome.{holding}
-use Rattle.rack.specs.ListingOutcome.{ofListing, NextShort, NextFits, ListingIs}
+use Rattle.rack.specs.ListingOutcome.{limitMost, GivenBad, ListingRefuses, ListingIs}
 use Rattle.rack.specs.ListingOutcome as list
 use Rattle.rack.specs.declared.Case.{Case}
 use Rattle.rack.specs.declared.Listed.{Listed}
@@ -55,9 +55,9 @@ pub data Told (c : Case) (limit : ℕ) (a : Asked) : Listed → List ℕ → Typ
   at-end : {room : List ℕ} → EndIs c limit a → Told c limit a End room
   next : {k : Bool} {r room : List ℕ} → NextIs c limit a r → matches c r ≡ k → take (length r) room ≡ r → Told c limit a (gives k (length r)) room
 
-module _ {f : List ℕ} {c : Case} (reads : ReadsAs f c) (ok : NetsPass c) (limit : ℕ) (low : limit ≤ 24) (a : Asked) (good : GivenBad c limit a → ⊥) (room work : List ℕ)
+module _ {f : List ℕ} {c : Case} (reads : ReadsAs f c) (ok : NetsPass c) (limit : ℕ) (low : limit ≤ limitMost) (a : Asked) (good : GivenBad c limit a → ⊥) (room work : List ℕ)
     (for-run : limit ≤ length room) (for-work : workRoom ≤ length work) where
-  not-refused : {n m : ℕ} → Refuses (ofListing f limit a work) (NextShort f limit a room) (NextFits f limit a room) listingOrder n m → ⊥
+  not-refused : {n m : ℕ} → ListingRefuses f limit a room work n m → ⊥
   not-refused x = not-listed f limit a room work x (listing-accepts reads ok limit low a good room work for-work (λ d s p y. omega (arith, y .within)))
 
   told : {x : Listed} {ρ ω : List ℕ} → ListingIs f limit a room work x ρ ω → Told c limit a x ρ
@@ -97,7 +97,7 @@ pub record Lists (c : Case) (limit : ℕ) (p : Asked → Answered) (a : Asked) :
   pub asked : Asking p a all
   pub whole : Whole c limit a all
 
-module _ {f : List ℕ} {c : Case} (reads : ReadsAs f c) (ok : NetsPass c) (limit : ℕ) (low : limit ≤ 24) (room work : Asked → List ℕ) (enough : Enough limit room work)
+module _ {f : List ℕ} {c : Case} (reads : ReadsAs f c) (ok : NetsPass c) (limit : ℕ) (low : limit ≤ limitMost) (room work : Asked → List ℕ) (enough : Enough limit room work)
     (p : Asked → Answered) (meets : Meets f limit room work p) where
   -- one question, if every later one leads to the end
   one-more : (a : Asked) → (GivenBad c limit a → ⊥) → ((r : List ℕ) → NextIs c limit a r → Lists c limit p (after r)) → Lists c limit p a

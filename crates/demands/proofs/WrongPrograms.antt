@@ -14,12 +14,12 @@ use Rattle.rack.specs.Listing.{after}
 use Rattle.rack.specs.Replay.{goesOn, firings, count}
 use Rattle.rack.specs.Bytes.{filled, put, marked}
 use Rattle.rack.specs.Writing.{bytesOf}
-use Rattle.rack.specs.Refusal.{workRoom, none, also, replayOrder, Accepts}
+use Rattle.rack.specs.Refusal.{workRoom, none, also}
 use Rattle.rack.specs.NetChecks.{NetAccepts, patternOrder}
-use Rattle.rack.specs.Outcome.{ofFile, NoneShort, holding, zeroed}
+use Rattle.rack.specs.Outcome.{ofFile, NoneSays, NoneRests, holding, zeroed}
 use Rattle.rack.specs.VerdictOutcome.{VerdictIs}
 use Rattle.rack.specs.ListingOutcome.{ListingIs}
-use Rattle.rack.specs.ReplayOutcome.{replayOf, ReplayIs, replayed}
+use Rattle.rack.specs.ReplayOutcome.{replayOf, ReplayAccepts, ReplayIs, replayed}
 use Rattle.rack.specs.Hub.{arc, hub, hubTable}
 use Rattle.rack.specs.declared.Judged.{Judged}
 use Rattle.rack.specs.declared.Verdict.{Verdict}
@@ -80,13 +80,18 @@ pattern-accept =
     let p = h4-passes in
     also (p .no-cycle) (also (p .pattern-few) (also (p .pattern-capped) (also (p .one-joins) (also (p .final-stays) none))))
 
-passes : Accepts (ofFile (bytesOf h4)) (Unit {0}) replayOrder
+passes : ReplayAccepts (bytesOf h4)
 passes =
-    also (layout-rests (ofFile (bytesOf h4)) NoneShort (Unit {0}) h4 h4-reads)
-    (lift-accepts (ofFile (bytesOf h4)) NoneShort (Unit {0}) h4 h4-reads {more = []} pattern-accept none)
+    also (layout-rests (ofFile (bytesOf h4)) NoneSays NoneRests h4 h4-reads)
+    (lift-accepts (ofFile (bytesOf h4)) NoneSays NoneRests h4 h4-reads {more = []} pattern-accept none)
+
+-- what the firings of a net compute with
+unfoldable netting : Unit {0}
+unfolding supplied enabledBy left firedBy capped within enabled fired pairs above blocks firable patternEnabled patternFired patternLabel allBelow anyBelow firstFrom tableFrom
+netting = tt
 
 three : count h4 (0 ∷ 2 ∷ 4 ∷ []) 10 ≡ 3
-unfolding hub arc count firings goesOn productWithin supplied enabledBy left firedBy capped within enabled fired pairs above blocks firable patternEnabled patternFired patternLabel labelOf joins follow start step allBelow anyBelow firstFrom tableFrom filled put marked
+unfolding netting hub arc count firings goesOn productWithin labelOf joins follow start step filled put marked
 three = refl
 
 module _ {x : Replayed} (is : ReplayIs (bytesOf h4) (0 ∷ 2 ∷ 4 ∷ []) 10 x) where

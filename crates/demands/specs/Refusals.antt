@@ -5,12 +5,11 @@ use mathlib.Core.Path.{_≡_}
 use mathlib.Core.List.{List}
 use Rattle.rack.specs.Listing.{Asked}
 use Rattle.rack.specs.Layout.{zeroCase}
-use Rattle.rack.specs.Refusal.{Refuses, readerOrder, verdictOrder, listingOrder, writerOrder, replayOrder}
-use Rattle.rack.specs.Outcome.{ofFile, NoneShort, zeroed}
-use Rattle.rack.specs.CaseFileOutcome.{ofCase, FileShort, FileEnough}
-use Rattle.rack.specs.VerdictOutcome.{ofVerdict, RunShort, RunsFit}
-use Rattle.rack.specs.ListingOutcome.{ofListing, NextShort, NextFits}
-use Rattle.rack.specs.ReplayOutcome.{replayRefused}
+use Rattle.rack.specs.Outcome.{zeroed}
+use Rattle.rack.specs.CaseFileOutcome.{ReaderRefuses, WriterRefuses}
+use Rattle.rack.specs.VerdictOutcome.{VerdictRefuses}
+use Rattle.rack.specs.ListingOutcome.{ListingRefuses}
+use Rattle.rack.specs.ReplayOutcome.{replayRefused, ReplayRefuses}
 use Rattle.rack.specs.declared.Case.{Case}
 use Rattle.rack.specs.declared.Outcome.the-variants as Reader
 use Rattle.rack.specs.declared.Reading.{Reading}
@@ -31,24 +30,24 @@ pub record Exactly (A B : Type 0) : Type 0 where
 -- ---- each call: the refusal is given exactly where the table of refusals says so, and changes nothing
 
 pub record ReaderTaken (f : List ℕ) (x : Reading) : Type 0 where
-  pub refusal : (n m : ℕ) → Exactly (x .outcome ≡ Reader.Refused n m) (Refuses (ofFile f) NoneShort (Unit {0}) readerOrder n m)
+  pub refusal : (n m : ℕ) → Exactly (x .outcome ≡ Reader.Refused n m) (ReaderRefuses f n m)
   pub nothing-read : (n m : ℕ) → x .outcome ≡ Reader.Refused n m → x .case ≡ zeroCase
 
 pub record WriterTaken (c : Case) (room : List ℕ) (x : Written) (a : List ℕ) : Type 0 where
-  pub refusal : (n m : ℕ) → Exactly (x ≡ Writer.Refused n m) (Refuses (ofCase c) (FileShort c room) (FileEnough c room) writerOrder n m)
+  pub refusal : (n m : ℕ) → Exactly (x ≡ Writer.Refused n m) (WriterRefuses c room n m)
   pub untouched : (n m : ℕ) → x ≡ Writer.Refused n m → a ≡ room
 
 pub record VerdictTaken (f matching other work : List ℕ) (x : Judged) (a b w : List ℕ) : Type 0 where
-  pub refusal : (n m : ℕ) → Exactly (x .verdict ≡ Verdict.Refused n m) (Refuses (ofVerdict f work) (RunShort f matching other) (RunsFit f matching other) verdictOrder n m)
+  pub refusal : (n m : ℕ) → Exactly (x .verdict ≡ Verdict.Refused n m) (VerdictRefuses f matching other work n m)
   pub untouched : (n m : ℕ) → x .verdict ≡ Verdict.Refused n m → (a ≡ matching) × ((b ≡ other) × ((x .matching ≡ 0) × (x .other ≡ 0)))
   pub zeros : w ≡ zeroed work
 
 pub record ListingTaken (f : List ℕ) (limit : ℕ) (asked : Asked) (room work : List ℕ) (x : Listed) (a w : List ℕ) : Type 0 where
-  pub refusal : (n m : ℕ) → Exactly (x ≡ Listing.Refused n m) (Refuses (ofListing f limit asked work) (NextShort f limit asked room) (NextFits f limit asked room) listingOrder n m)
+  pub refusal : (n m : ℕ) → Exactly (x ≡ Listing.Refused n m) (ListingRefuses f limit asked room work n m)
   pub untouched : (n m : ℕ) → x ≡ Listing.Refused n m → a ≡ room
   pub end-untouched : x ≡ Listing.End → a ≡ room
   pub zeros : w ≡ zeroed work
 
 pub record ReplayTaken (f : List ℕ) (x : Replayed) : Type 0 where
-  pub refusal : (n m : ℕ) → Exactly (x .stop ≡ Replay.Refused n m) (Refuses (ofFile f) NoneShort (Unit {0}) replayOrder n m)
+  pub refusal : (n m : ℕ) → Exactly (x .stop ≡ Replay.Refused n m) (ReplayRefuses f n m)
   pub nothing-fired : (n m : ℕ) → x .stop ≡ Replay.Refused n m → x ≡ replayRefused n m

@@ -8,10 +8,10 @@ use lib.ListN.{length}
 use Rattle.rack.specs.Run.{Explains}
 use Rattle.rack.specs.Verdict.{FirstOfKind}
 use Rattle.rack.specs.Layout.{ReadsAs, BreaksAt}
-use Rattle.rack.specs.Refusal.{workRoom, NetsPass, Question, Speaks, Silent, FirstToSpeak, speaks, rests, work-room, layout, unexplained, lent-room}
+use Rattle.rack.specs.Refusal.{Own, unexplained, lent-room, Check, work-room, own, workRoom, NetsPass, Question, Refuses, speaks, rests}
 use Rattle.rack.specs.NetChecks.{patternOrder, productOrder}
 use Rattle.rack.specs.Outcome.{zeroed}
-use Rattle.rack.specs.VerdictOutcome.{ofVerdict, Fits, TooLong, RunShort, matching-short, other-short, RunsFit, VerdictIs}
+use Rattle.rack.specs.VerdictOutcome.{ofVerdict, TooLong, RunShort, matching-short, other-short, VerdictSays, run-short, VerdictRests, one-explains, VerdictIs}
 use Rattle.rack.specs.VerdictOutcome as outcome
 use Rattle.rack.specs.declared.Case.{Case}
 use Rattle.rack.specs.declared.Judged.{Judged}
@@ -22,6 +22,19 @@ use Rattle.judge.specs.CaseJudged.{refusedBy, Shown, faulty, safe, ambig
 use Rattle.judge.specs.CaseJudged as case
 
 module _ (f matching other work : List ℕ) where
+  abbrev q : Question
+  q = ofVerdict f work
+
+  abbrev Says : Own → ℕ → Type 0
+  Says = VerdictSays f matching other
+
+  abbrev Rests : Own → Type 0
+  Rests = VerdictRests f matching other
+
+  -- the verdict's checks after the common ones
+  abbrev ownOrder : List Check
+  ownOrder = own unexplained ∷ own lent-room ∷ []
+
   -- 1: the work room is too short
   pub short-room : length work < workRoom → VerdictIs f matching other work (refusedBy 1 0) matching other (zeroed work)
   short-room h = outcome.refused (speaks {k = work-room} (h, refl))
@@ -33,17 +46,12 @@ module _ (f matching other work : List ℕ) where
 
     module _ {c : Case} (reads : ReadsAs f c) where
       -- a refusal after the checks 3 to 9
-      after-nets : NetsPass c → {n m : ℕ} → FirstToSpeak (Speaks (ofVerdict f work) (RunShort f matching other)) (Silent (ofVerdict f work) (RunsFit f matching other)) (unexplained ∷ lent-room ∷ []) n m
-          → VerdictIs f matching other work (refusedBy n m) matching other (zeroed work)
-      after-nets ok s =
-          outcome.refused
-          (rests room
-          (rests (layout-rests (ofVerdict f work) (RunShort f matching other) (RunsFit f matching other) c reads)
-          (lift-on (ofVerdict f work) (RunShort f matching other) (RunsFit f matching other) c reads {more = unexplained ∷ lent-room ∷ []} (passes-accept ok) s)))
+      after-nets : NetsPass c → {n m : ℕ} → Refuses q Says Rests ownOrder n m → VerdictIs f matching other work (refusedBy n m) matching other (zeroed work)
+      after-nets ok s = outcome.refused (rests room (rests (layout-rests q Says Rests c reads) (lift-on q Says Rests c reads {more = ownOrder} (passes-accept ok) s)))
 
       -- 11: a run that is too long, of a case that is explained
       too-short : NetsPass c → {r : List ℕ} {n : ℕ} → Explains c r → RunShort f matching other n → VerdictIs f matching other work (refusedBy 11 n) matching other (zeroed work)
-      too-short ok {r} x s = after-nets ok (rests (record { case = c; reads = reads; is = (r, x) }) (speaks s))
+      too-short ok {r} x s = after-nets ok (rests (one-explains (record { case = c; reads = reads; is = (r, x) })) (speaks (run-short s)))
 
       too-long : {k : Bool} {r lent : List ℕ} → FirstOfKind c k r → length lent < length r → TooLong f k lent (length r)
       too-long {r = r} x h = record { case = c; run = r; reads = reads; first = x; short = h; needed = refl }
@@ -61,14 +69,10 @@ module _ (f matching other work : List ℕ) where
       -- THE VERDICT on a file that reads as c
       pub verdict-of : {x : Judged} {a b : List ℕ} → CaseJudged c matching other x a b → VerdictIs f matching other work x a b (zeroed work)
       verdict-of (pattern-refused s) =
-          outcome.refused
-          (rests room
-          (rests (layout-rests (ofVerdict f work) (RunShort f matching other) (RunsFit f matching other) c reads)
-          (lift-refuses (ofVerdict f work) (RunShort f matching other) (RunsFit f matching other) c reads (productOrder ++ (unexplained ∷ lent-room ∷ [])) s)))
+          outcome.refused (rests room (rests (layout-rests q Says Rests c reads) (lift-refuses q Says Rests c reads (productOrder ++ ownOrder) s)))
       verdict-of (product-refused a s) =
           outcome.refused
           (rests room
-          (rests (layout-rests (ofVerdict f work) (RunShort f matching other) (RunsFit f matching other) c reads)
-          (lift-on (ofVerdict f work) (RunShort f matching other) (RunsFit f matching other) c reads a
-          (lift-refuses (ofVerdict f work) (RunShort f matching other) (RunsFit f matching other) c reads (unexplained ∷ lent-room ∷ []) s))))
+          (rests (layout-rests q Says Rests c reads)
+          (lift-on q Says Rests c reads {more = productOrder ++ ownOrder} a (lift-refuses q Says Rests c reads ownOrder s))))
       verdict-of (shown ok s) = shown-outcome ok s

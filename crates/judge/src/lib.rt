@@ -5,7 +5,11 @@ use admit::Answer;
 use rack::Case;
 use rack::Judged;
 use rack::Outcome;
+use rack::REFUSED_LENT_ROOM;
+use rack::REFUSED_UNEXPLAINED;
+use rack::REFUSED_WORK_ROOM;
 use rack::Verdict;
+use rack::WORK_ROOM;
 use search::Place;
 ghost use mathlib.Core.Path.{_≡_};
 ghost use mathlib.Core.Bool.{true, false};
@@ -52,10 +56,10 @@ fn without_matching<'r, 'o>(
     ensures { λ r. ⌜ ((matching : List ℕ) → Shown c matching (now (other .entry)) r matching (now (other .exit))) ⌝ }
 {
     match second {
-        Place::Nowhere => refused(10, 0),
+        Place::Nowhere => refused(REFUSED_UNEXPLAINED, 0),
         Place::At(rank, depth) => {
             if other.len() < depth {
-                return refused(11, depth);
+                return refused(REFUSED_LENT_ROOM, depth);
             }
             search::write_run(c, work, rows, met, rank, depth, other);
             Judged {
@@ -85,7 +89,7 @@ fn with_matching<'r, 'm, 'o>(
     ensures { λ r. ⌜ Shown c (now (matching .entry)) (now (other .entry)) r (now (matching .exit)) (now (other .exit)) ⌝ }
 {
     if matching.len() < depth {
-        return refused(11, depth);
+        return refused(REFUSED_LENT_ROOM, depth);
     }
     match second {
         Place::Nowhere => {
@@ -98,7 +102,7 @@ fn with_matching<'r, 'm, 'o>(
         }
         Place::At(other_rank, other_depth) => {
             if other.len() < other_depth {
-                return refused(11, other_depth);
+                return refused(REFUSED_LENT_ROOM, other_depth);
             }
             search::write_run(c, work, rows, met, rank, depth, matching);
             search::write_run(c, work, rows, met, other_rank, other_depth, other);
@@ -141,8 +145,8 @@ fn show<'r, 'm, 'o>(
 pub fn judge(file: &[u8], matching: &mut [u8], other: &mut [u8], work: &mut [u8]) -> Judged
     ensures { λ r. ⌜ VerdictIs (now (file .entry)) (now (matching .entry)) (now (other .entry)) (now (work .entry)) r (now (matching .exit)) (now (other .exit)) (now (work .exit)) ⌝ }
 {
-    if work.len() < 57344 {
-        return refuse(work, 1, 0);
+    if work.len() < WORK_ROOM {
+        return refuse(work, REFUSED_WORK_ROOM, 0);
     }
     let reading = reader::read_case(file);
     let outcome = reading.outcome;

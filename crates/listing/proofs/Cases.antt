@@ -11,7 +11,7 @@ use Rattle.walks.specs.Below.{pick}
 use Rattle.walks.proofs.Grow.{split}
 use Rattle.rack.specs.Run.{logOf}
 use Rattle.rack.specs.Listing.{Asked, from-start, after, EndIs}
-use Rattle.rack.specs.Refusal.{GivenBad}
+use Rattle.rack.specs.ListingOutcome.{limitMost, GivenBad}
 use Rattle.rack.specs.Outcome.{holding}
 use Rattle.rack.specs.declared.Case.{Case}
 use Rattle.rack.specs.declared.Listed.{Listed}
@@ -56,11 +56,11 @@ end-shown {c} {limit} {asked} {room} {a = a} f g =
 
 module _ (c : Case) (limit : ℕ) (asked : Asked) (out₀ out room : List ℕ) where
   -- a run that is found is within the limit
-  short-of : (s : Sought) → limit ≤ 24 → SoughtIs c limit asked out₀ out s → Short s
+  short-of : (s : Sought) → limit ≤ limitMost → SoughtIs c limit asked out₀ out s → Short s
   short-of (Run m k) low f = omega (arith, f .long, f .next .within)
   short-of Nothing low f = tt
 
-  pub found-short : (s : Sought) → limit ≤ 24 → SoughtSays c limit asked out₀ out s → Short s
+  pub found-short : (s : Sought) → limit ≤ limitMost → SoughtSays c limit asked out₀ out s → Short s
   found-short s low f = short-of s low (f .is)
 
   -- what is given of it

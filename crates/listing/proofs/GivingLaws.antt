@@ -9,6 +9,7 @@ use borrow.Author.Count.{below-more}
 use lib.ListN.{length, getD, set}
 use Rattle.walks.specs.Says.{Says}
 use Rattle.walks.specs.Below.{pick}
+use Rattle.rack.specs.ListingOutcome.{limitMost}
 use Rattle.rack.specs.declared.Listed.{Listed}
 use Rattle.rack.specs.declared.Listed.the-variants.{Matching, Other, End, Refused}
 use Rattle.seek.specs.declared.Sought.{Sought}
@@ -52,7 +53,7 @@ module _ (run room : List ℕ) (s : Sought) where
   gives-end e = record { is = subst (λ (t : Sought). GivesOf run room t End room) (sym e) (refl, refl) }
 
   module _ (m : ℕ) (k : Bool) (e : s ≡ Run m k) where
-    pub short-run : Short s → m ≤ 24
+    pub short-run : Short s → m ≤ limitMost
     short-run h = subst Short e h
 
     run-says : (x : Listed) (a : List ℕ) → Gives run room m k x a → GiveSays run room s x a

@@ -8,7 +8,7 @@ use Rattle.rack.specs.Listing.{Asked}
 use Rattle.rack.specs.Layout.{ReadsAs}
 use Rattle.rack.specs.Refusal.{workRoom}
 use Rattle.rack.specs.Outcome.{zeroed}
-use Rattle.rack.specs.ListingOutcome.{ListingIs}
+use Rattle.rack.specs.ListingOutcome.{limitMost, ListingIs}
 use Rattle.rack.specs.declared.Case.{Case}
 use Rattle.rack.specs.declared.Listed.{Listed}
 use Rattle.rack.specs.declared.Listed.the-variants.{Refused}
@@ -26,7 +26,7 @@ long-room (by-room h) e = absurd (omega arith)
 long-room (by-limit r h) e = r
 long-room (by-neither r h) e = r
 
-pub low-limit : {work most n : ℕ} → Barred work most n → n ≡ 0 → most ≤ 24
+pub low-limit : {work most n : ℕ} → Barred work most n → n ≡ 0 → most ≤ limitMost
 low-limit (by-room h) e = absurd (omega arith)
 low-limit (by-limit r h) e = absurd (omega arith)
 low-limit (by-neither r h) e = h

@@ -8,7 +8,7 @@ use mathlib.Core.List.{List}
 use lib.ListN.{length}
 use Rattle.rack.specs.Run.{matches}
 use Rattle.rack.specs.Listing.{Asked, NextIs, EndIs}
-use Rattle.rack.specs.Refusal.{GivenBad}
+use Rattle.rack.specs.ListingOutcome.{limitMost, GivenBad}
 use Rattle.rack.specs.Outcome.{holding, zeroed}
 use Rattle.rack.specs.declared.Case.{Case}
 use Rattle.search.specs.Found.{Ready}
@@ -35,7 +35,7 @@ pub record ListedSays (c : Case) (limit : ℕ) (asked : Asked) (room work : List
 -- what the listing of a case asks: a case that passes the checks 2 to 9, the table of its reachable markings in the work room, a limit that passes 12
 pub record Listing (c : Case) (work : List ℕ) (rows limit : ℕ) : Type 0 where
   pub ready : Ready c work rows
-  pub low : limit ≤ 24
+  pub low : limit ≤ limitMost
 
 -- r tells whether the log is longer than the limit: "A log longer than the limit gives the end."
 pub record LogSays (c : Case) (limit : ℕ) (r : Bool) : Type 0 where

@@ -6,6 +6,7 @@ use mathlib.Core.Bool.{Bool}
 use mathlib.Core.List.{List, _++_}
 use lib.ListN.{length, getD, take, drop}
 use Rattle.walks.specs.Below.{pick}
+use Rattle.rack.specs.ListingOutcome.{limitMost}
 use Rattle.rack.specs.declared.Listed.{Listed}
 use Rattle.rack.specs.declared.Listed.the-variants.{Matching, Other, End, Refused}
 use Rattle.seek.specs.declared.Sought.{Sought}
@@ -29,7 +30,7 @@ pub record GiveSays (run room : List ℕ) (s : Sought) (x : Listed) (a : List �
 
 -- what giving asks: a run that is found is at most 24 firings long
 abbrev pub Short : Sought → Type 0
-Short (Run m k) = m ≤ 24
+Short (Run m k) = m ≤ limitMost
 Short Nothing = Unit {0}
 
 -- a given run within the limit that holds only numbers below the count of transitions

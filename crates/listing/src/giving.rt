@@ -1,5 +1,7 @@
 // Giving a run that has been found, and the test of a given run.
+use rack::LIMIT_MOST;
 use rack::Listed;
+use rack::REFUSED_LENT_ROOM;
 use seek::Sought;
 ghost use mathlib.Core.Path.{_≡_};
 ghost use Prim.Native.Nat.{_≤_};
@@ -21,7 +23,7 @@ fn copy(run: &[u8], m: usize, room: &mut [u8])
 }
 
 // The answer for what was found: the run is written to the front of the room where it fits.
-fn give(sought: Sought, run: &[u8; 24], room: &mut [u8]) -> Listed
+fn give(sought: Sought, run: &[u8; LIMIT_MOST], room: &mut [u8]) -> Listed
     requires { ⌜ Short sought ⌝ }
     ensures { λ r. ⌜ GiveSays (now (run .entry)) (now (room .entry)) sought r (now (room .exit)) ⌝ }
 {
@@ -29,7 +31,7 @@ fn give(sought: Sought, run: &[u8; 24], room: &mut [u8]) -> Listed
         Sought::Nothing => Listed::End,
         Sought::Run(m, matching) => {
             if room.len() < m {
-                return Listed::Refused(11, m);
+                return Listed::Refused(REFUSED_LENT_ROOM, m);
             }
             copy(run, m, room);
             if matching {
@@ -41,7 +43,12 @@ fn give(sought: Sought, run: &[u8; 24], room: &mut [u8]) -> Listed
 }
 
 // The same as the last step of a call: the work room is all zeros afterwards.
-pub fn give_and_clear(sought: Sought, run: &[u8; 24], room: &mut [u8], work: &mut [u8]) -> Listed
+pub fn give_and_clear(
+    sought: Sought,
+    run: &[u8; LIMIT_MOST],
+    room: &mut [u8],
+    work: &mut [u8],
+) -> Listed
     requires { ⌜ Short sought ⌝ }
     ensures { λ _. ⌜ now (work .exit) ≡ zeroed (now (work .entry)) ⌝ }
     ensures { λ r. ⌜ GiveSays (now (run .entry)) (now (room .entry)) sought r (now (room .exit)) ⌝ }

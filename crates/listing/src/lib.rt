@@ -5,8 +5,13 @@ use crate::giving::give_and_clear;
 use crate::giving::is_good;
 use admit::Answer;
 use rack::Case;
+use rack::LIMIT_MOST;
 use rack::Listed;
 use rack::Outcome;
+use rack::REFUSED_GIVEN_RUN;
+use rack::REFUSED_LIMIT;
+use rack::REFUSED_WORK_ROOM;
+use rack::WORK_ROOM;
 use seek::Sought;
 ghost use mathlib.Core.Path.{_≡_};
 ghost use lib.ListN.{length};
@@ -31,11 +36,11 @@ fn wide(x: u8) -> usize
 fn barred(bytes: usize, limit: usize) -> u8
     ensures { λ r. ⌜ Barred bytes limit r ⌝ }
 {
-    if bytes < 57344 {
-        return 1;
+    if bytes < WORK_ROOM {
+        return REFUSED_WORK_ROOM;
     }
-    if 24 < limit {
-        return 12;
+    if LIMIT_MOST < limit {
+        return REFUSED_LIMIT;
     }
     0
 }
@@ -66,7 +71,7 @@ fn first_of(c: Case, rows: usize, limit: usize, room: &mut [u8], work: &mut [u8]
     requires { ⌜ Listing c (now work) rows limit ⌝ }
     ensures { λ r. ⌜ ListedSays c limit from-start (now (room .entry)) (now (work .entry)) r (now (room .exit)) (now (work .exit)) ⌝ }
 {
-    let mut run = [0u8; 24];
+    let mut run = [0u8; LIMIT_MOST];
     if log_too_long(c, limit) {
         return give_and_clear(Sought::Nothing, &run, room, work);
     }
@@ -89,9 +94,9 @@ fn next_of(
 {
     let arcs = c.arcs;
     if !is_good(given, limit, arcs.count) {
-        return refuse(work, 13, 0);
+        return refuse(work, REFUSED_GIVEN_RUN, 0);
     }
-    let mut run = [0u8; 24];
+    let mut run = [0u8; LIMIT_MOST];
     if log_too_long(c, limit) {
         return give_and_clear(Sought::Nothing, &run, room, work);
     }

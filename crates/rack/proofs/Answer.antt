@@ -15,11 +15,11 @@ use Rattle.rack.specs.Run.{fires, runs, matches, Explains}
 use Rattle.rack.specs.Verdict.{FirstOfKind, AllOfKind, NoneExplains, IsFaulty, IsSafe, IsAmbiguous}
 use Rattle.rack.specs.Listing.{Asked, from-start, after, NextIs, EndIs}
 use Rattle.rack.specs.Layout.{ReadsAs}
-use Rattle.rack.specs.Refusal.{workRoom, NetsPass, GivenBad, unexplained, lent-room, given-run, speaks, rests, none, also, Accepts, verdictOrder, listingOrder}
+use Rattle.rack.specs.Refusal.{Own, unexplained, lent-room, given-run, Check, own, workRoom, NetsPass, speaks, rests, none, also}
 use Rattle.rack.specs.Outcome.{holding, zeroed}
-use Rattle.rack.specs.VerdictOutcome.{ofVerdict, Fits, RunShort, RunsFit, VerdictIs, faulty, safe, ambiguous}
+use Rattle.rack.specs.VerdictOutcome.{ofVerdict, Fits, RunsFit, VerdictSays, none-explains, VerdictRests, one-explains, runs-fit, VerdictAccepts, VerdictIs, faulty, safe, ambiguous}
 use Rattle.rack.specs.VerdictOutcome as judge
-use Rattle.rack.specs.ListingOutcome.{ofListing, NextShort, NextFits, ListingIs}
+use Rattle.rack.specs.ListingOutcome.{ofListing, limitMost, GivenBad, NextFits, ListingSays, ListingRests, limit-kept, given-fine, next-fits, ListingAccepts, ListingIs}
 use Rattle.rack.specs.ListingOutcome as list
 use Rattle.rack.specs.declared.Case.{Case}
 use Rattle.rack.specs.declared.Listed.the-variants as Listing
@@ -40,14 +40,24 @@ module _ {f : List ℕ} {c : Case} (reads : ReadsAs f c) (ok : NetsPass c) (matc
   fits-none : (k : Bool) (lent : List ℕ) → ((r : List ℕ) → FirstOfKind c k r → ⊥) → Fits f k lent
   fits-none k lent absent d s p y = absurd (absent s (subst (λ (g : Case). FirstOfKind g k s) (one-case p reads) y))
 
+  abbrev Says : Own → ℕ → Type 0
+  Says = VerdictSays f matching other
+
+  abbrev Rests : Own → Type 0
+  Rests = VerdictRests f matching other
+
+  -- the verdict's checks after the common ones
+  abbrev ownOrder : List Check
+  ownOrder = own unexplained ∷ own lent-room ∷ []
+
   -- none of the checks speaks where a run explains the log and the rooms are long enough
-  pub accepts : (r : List ℕ) → Explains c r → RunsFit f matching other → Accepts (ofVerdict f work) (RunsFit f matching other) verdictOrder
+  pub accepts : (r : List ℕ) → Explains c r → RunsFit f matching other → VerdictAccepts f matching other work
   accepts r x h =
       let q = ofVerdict f work in
       also room
-      (also (layout-rests q (RunShort f matching other) (RunsFit f matching other) c reads)
-      (lift-accepts q (RunShort f matching other) (RunsFit f matching other) c reads {more = unexplained ∷ lent-room ∷ []} (passes-accept ok)
-      (also (record { case = c; reads = reads; is = (r, x) }) (also h none))))
+      (also (layout-rests q Says Rests c reads)
+      (lift-accepts q Says Rests c reads {more = ownOrder} (passes-accept ok)
+      (also (one-explains (record { case = c; reads = reads; is = (r, x) })) (also (runs-fit h) none))))
 
   true≠false : true ≡ false → ⊥
   true≠false e = let z : _≡_ {A = ℕ} 0 1 = ap (λ (b : Bool). pick b 0 1) e in omega arith
@@ -78,9 +88,9 @@ module _ {f : List ℕ} {c : Case} (reads : ReadsAs f c) (ok : NetsPass c) (matc
       let q = ofVerdict f work in
       judge.refused
       (rests room
-      (rests (layout-rests q (RunShort f matching other) (RunsFit f matching other) c reads)
-      (lift-on q (RunShort f matching other) (RunsFit f matching other) c reads {more = unexplained ∷ lent-room ∷ []} (passes-accept ok)
-      (speaks (record { case = c; reads = reads; is = x }, refl)))))
+      (rests (layout-rests q Says Rests c reads)
+      (lift-on q Says Rests c reads {more = ownOrder} (passes-accept ok)
+      (speaks (none-explains (record { case = c; reads = reads; is = x }))))))
 
 -- ---- the listing
 
@@ -96,16 +106,17 @@ pub given-good : (c : Case) (n : ℕ) (r : List ℕ) → Explains c r → length
 unfolding runs
 given-good c n r x h = ⊎-elim (λ k. omega arith) (λ k. let z = run-known c r (start c) (x .run) (k .0) (k .1 .0) in omega (arith, z, k .1 .1))
 
-module _ {f : List ℕ} {c : Case} (reads : ReadsAs f c) (ok : NetsPass c) (n : ℕ) (low : n ≤ 24) (asked : Asked) (good : GivenBad c n asked → ⊥) (room work : List ℕ) (enough : workRoom ≤ length work) where
+module _ {f : List ℕ} {c : Case} (reads : ReadsAs f c) (ok : NetsPass c) (n : ℕ) (low : n ≤ limitMost) (asked : Asked) (good : GivenBad c n asked → ⊥) (room work : List ℕ)
+    (enough : workRoom ≤ length work) where
   -- none of the checks speaks where the room is long enough
-  pub listing-accepts : NextFits f n asked room → Accepts (ofListing f n asked work) (NextFits f n asked room) listingOrder
+  pub listing-accepts : NextFits f n asked room → ListingAccepts f n asked room work
   listing-accepts h =
-      let q = ofListing f n asked work in
+      let q = ofListing f work in
       also enough
-      (also low
-      (also (layout-rests q (NextShort f n asked room) (NextFits f n asked room) c reads)
-      (lift-accepts q (NextShort f n asked room) (NextFits f n asked room) c reads {more = given-run ∷ lent-room ∷ []} (passes-accept ok)
-      (also (record { case = c; reads = reads; is = good }) (also h none)))))
+      (also (limit-kept low)
+      (also (layout-rests q (ListingSays f n asked room) (ListingRests f n asked room) c reads)
+      (lift-accepts q (ListingSays f n asked room) (ListingRests f n asked room) c reads {more = own given-run ∷ own lent-room ∷ []} (passes-accept ok)
+      (also (given-fine (record { case = c; reads = reads; is = good })) (also (next-fits h) none)))))
 
   pub answer-next : {r : List ℕ} (b : Bool) → NextIs c n asked r → matches c r ≡ b → n ≤ length room
       → ListingIs f n asked room work (pick b (Listing.Matching (length r)) (Listing.Other (length r))) (holding r room) (zeroed work)

@@ -26,7 +26,8 @@ use Rattle.rack.specs.Marks.{markOf, follows}
 use Rattle.rack.specs.Records.{ntSays, ptSays, trSays, pxSays, prSays, obSays, bounds, qfSays, observed, lgSays}
 use Rattle.rack.specs.Layout.{zeroCase, ReadsAs}
 use Rattle.rack.specs.Writing.{listed, upTo, ntBytes, trBytes, prBytes, obBytes, ptBytes, pxBytes, qfBytes, lgBytes, bytesOf}
-use Rattle.rack.specs.Refusal.{pairAt, lowerOf, GivenBad, NetsPass}
+use Rattle.rack.specs.Refusal.{pairAt, lowerOf, NetsPass}
+use Rattle.rack.specs.ListingOutcome.{GivenBad}
 use Rattle.rack.specs.Hub.{arc, hub, shortHub, Call, verdict, listing, Entry, Expected, faulty, safe, ambiguous, refused, Row, Judges, Lists, Answers, AllHold, hubTable}
 use Rattle.rack.specs.Hub as table
 use Rattle.rack.specs.Slips.{telling, noPairs, noLinks, chain, twoTokens, mustFollow, slipTable}
@@ -145,9 +146,37 @@ all-of (w ∷ ws) t =
       all-of ws (and-right (allOf (rowTests w)) (allRight ws) t),
     )
 
--- all that the test computes with
+-- all that the test computes with: numbers, lists and walks; nets; runs; the layout; the file; the tests
+unfoldable walking : Unit {0}
+unfolding allBelow anyBelow firstFrom tableFrom every same walks ends smaller before member stepsInto closedTest nexts explore allWalks filled put rising marked
+walking = tt
+
+unfoldable netting : Unit {0}
+unfolding supplied enabledBy left firedBy capped within enabled fired pairs above blocks firable patternEnabled patternFired patternLabel bounded meets final
+netting = tt
+
+unfoldable running : Unit {0}
+unfolding labelOf joins follow start step patternGoes productWithin productGoes runs end visible shown logOf matches maySilently due keeps next moves onto origin later explains
+running = tt
+
+unfoldable reading : Unit {0}
+unfolding markOf follows ntSays ptSays trSays pxSays prSays obSays bounds qfSays observed lgSays zeroCase caseTests listTests netTests arcsTests risesTest prTests qfTests lgTests fieldsTest parse
+reading = tt
+
+unfoldable writing : Unit {0}
+unfolding hub shortHub arc telling noPairs noLinks chain twoTokens mustFollow listed upTo ntBytes trBytes prBytes obBytes ptBytes pxBytes qfBytes lgBytes bytesOf
+writing = tt
+
+unfoldable accepting : Unit {0}
+unfolding pairAt lowerOf likeProduct below noCycle patternSet capKept apart single finalKept patternRight productSet systemKept productRight acceptTests
+accepting = tt
+
+unfoldable telling-tests : Unit {0}
+unfolding rowTests readTest short listTest expectedTest likeNode nodes atEnd endsTest atLength allUpTo firstTest allTest nextTest endTest
+telling-tests = tt
+
 unfoldable meaning : Unit {0}
-unfolding rowTests readTest short listTest expectedTest hub shortHub arc telling noPairs noLinks chain twoTokens mustFollow allBelow anyBelow firstFrom tableFrom every same walks ends smaller before member stepsInto closedTest nexts explore allWalks supplied enabledBy left firedBy capped within enabled fired pairs above blocks firable patternEnabled patternFired patternLabel bounded meets final labelOf joins follow start step patternGoes productWithin productGoes runs end visible shown logOf matches maySilently due keeps next moves onto origin later explains filled put rising marked markOf follows ntSays ptSays trSays pxSays prSays obSays bounds qfSays observed lgSays zeroCase listed upTo ntBytes trBytes prBytes obBytes ptBytes pxBytes qfBytes lgBytes bytesOf pairAt lowerOf likeProduct below noCycle patternSet capKept apart single finalKept patternRight productSet systemKept productRight acceptTests likeNode nodes atEnd endsTest atLength allUpTo firstTest allTest nextTest endTest caseTests listTests netTests arcsTests risesTest prTests qfTests lgTests fieldsTest parse
+unfolding walking netting running reading writing accepting telling-tests
 meaning = tt
 
 hub-computed : T (allRight hubTable)

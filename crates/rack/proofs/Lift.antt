@@ -3,16 +3,17 @@ use Prim.Native.Nat.{ℕ}
 use mathlib.Core.Path.{_≡_, refl, sym, subst}
 use mathlib.Core.List.{List, [], _∷_, _++_}
 use Rattle.rack.specs.Layout.{ReadsAs}
-use Rattle.rack.specs.Refusal.{Check, work-room, layout, cycle, pattern-count, pattern-cap, two-join, final-left, product-count, system-cap, unexplained, lent-room, limit, given-run, unwritable, NetsPass, Question, OfCase, Speaks, Silent, FirstToSpeak, speaks, rests, AllSilent, none, also, verdictOrder, listingOrder, replayOrder, Accepts}
+use Rattle.rack.specs.Refusal.{Own, Check, work-room, layout, cycle, pattern-count, pattern-cap, two-join, final-left, product-count, system-cap, own}
+use Rattle.rack.specs.Refusal.{NetsPass, Question, OfCase, Speaks, Silent, FirstToSpeak, speaks, rests, AllSilent, none, also, verdictOrder, Accepts}
 use Rattle.rack.specs.NetChecks.{NetSpeaks, NetRests, NetRefuses, NetAccepts, patternOrder, productOrder}
 use Rattle.rack.specs.declared.Case.{Case}
 use Rattle.rack.proofs.OneReading.{one-case}
 
-module _ (q : Question) (Short : ℕ → Type 0) (Enough : Type 0) (c : Case) (reads : ReadsAs (q .file) c) where
+module _ (q : Question) (Says : Own → ℕ → Type 0) (Rests : Own → Type 0) (c : Case) (reads : ReadsAs (q .file) c) where
   of : (P : Case → Type 0) → P c → OfCase (q .file) P
   of P p = record { case = c; reads = reads; is = p }
 
-  lift-speaks : (k : Check) → NetSpeaks c k → Speaks q Short k 0
+  lift-speaks : (k : Check) → NetSpeaks c k → Speaks q Says k 0
   lift-speaks work-room x = absurd x
   lift-speaks layout x = absurd x
   lift-speaks cycle x = (of _ x, refl)
@@ -22,13 +23,9 @@ module _ (q : Question) (Short : ℕ → Type 0) (Enough : Type 0) (c : Case) (r
   lift-speaks final-left x = (of _ x, refl)
   lift-speaks product-count x = (of _ x, refl)
   lift-speaks system-cap x = (of _ x, refl)
-  lift-speaks unexplained x = (of _ x, refl)
-  lift-speaks lent-room x = absurd x
-  lift-speaks limit x = absurd x
-  lift-speaks given-run x = absurd x
-  lift-speaks unwritable x = absurd x
+  lift-speaks (own k) x = absurd x
 
-  lift-rests : (k : Check) → NetRests c k → Silent q Enough k
+  lift-rests : (k : Check) → NetRests c k → Silent q Rests k
   lift-rests work-room x = absurd x
   lift-rests layout x = absurd x
   lift-rests cycle x = of _ x
@@ -38,28 +35,24 @@ module _ (q : Question) (Short : ℕ → Type 0) (Enough : Type 0) (c : Case) (r
   lift-rests final-left x = of _ x
   lift-rests product-count x = of _ x
   lift-rests system-cap x = of _ x
-  lift-rests unexplained x = of _ x
-  lift-rests lent-room x = absurd x
-  lift-rests limit x = absurd x
-  lift-rests given-run x = absurd x
-  lift-rests unwritable x = absurd x
+  lift-rests (own k) x = absurd x
 
   -- the file reads, so 2 rests
-  pub layout-rests : Silent q Enough layout
+  pub layout-rests : Silent q Rests layout
   layout-rests = of _ tt
 
   -- a check on the nets speaks first
-  pub lift-refuses : {ks : List Check} {n : ℕ} (more : List Check) → NetRefuses c ks n → FirstToSpeak (Speaks q Short) (Silent q Enough) (ks ++ more) n 0
+  pub lift-refuses : {ks : List Check} {n : ℕ} (more : List Check) → NetRefuses c ks n → FirstToSpeak (Speaks q Says) (Silent q Rests) (ks ++ more) n 0
   lift-refuses more (speaks {k} x) = speaks (lift-speaks k (x .0))
   lift-refuses more (rests {k} x u) = rests (lift-rests k x) (lift-refuses more u)
 
   -- none of them speaks, and then another check does
-  pub lift-on : {ks more : List Check} {n m : ℕ} → NetAccepts c ks → FirstToSpeak (Speaks q Short) (Silent q Enough) more n m → FirstToSpeak (Speaks q Short) (Silent q Enough) (ks ++ more) n m
+  pub lift-on : {ks more : List Check} {n m : ℕ} → NetAccepts c ks → FirstToSpeak (Speaks q Says) (Silent q Rests) more n m → FirstToSpeak (Speaks q Says) (Silent q Rests) (ks ++ more) n m
   lift-on none v = v
   lift-on (also {k} x u) v = rests (lift-rests k x) (lift-on u v)
 
   -- none of them speaks, and none after them
-  pub lift-accepts : {ks more : List Check} → NetAccepts c ks → AllSilent (Silent q Enough) more → AllSilent (Silent q Enough) (ks ++ more)
+  pub lift-accepts : {ks more : List Check} → NetAccepts c ks → AllSilent (Silent q Rests) more → AllSilent (Silent q Rests) (ks ++ more)
   lift-accepts none v = v
   lift-accepts (also {k} x u) v = also (lift-rests k x) (lift-accepts u v)
 
@@ -78,7 +71,7 @@ accept-passes (also a (also b (also d (also e (also f u))))) (also g (also h v))
 same-case : {f : List ℕ} {c : Case} {P : Case → Type 0} → ReadsAs f c → OfCase f P → P c
 same-case {f} {c} {P} r x = subst P (one-case (x .reads) r) (x .is)
 
-pub verdict-passes : {q : Question} {Enough : Type 0} {c : Case} → ReadsAs (q .file) c → Accepts q Enough verdictOrder → NetsPass c
+pub verdict-passes : {q : Question} {Rests : Own → Type 0} {c : Case} → ReadsAs (q .file) c → Accepts q Rests verdictOrder → NetsPass c
 verdict-passes r (also w (also l (also a (also b (also d (also e (also f (also g (also h v))))))))) =
     record {
       no-cycle = same-case r a;

@@ -11,13 +11,15 @@ use Rattle.rack.specs.Verdict.{FirstOfKind, IsFaulty, IsSafe, IsAmbiguou
 use Rattle.rack.specs.Listing.{Asked, NextIs, EndIs}
 use Rattle.rack.specs.Layout.{zeroCase, ReadsAs, BreaksAt}
 use Rattle.rack.specs.Writing.{bytesOf}
-use Rattle.rack.specs.Refusal.{layout, readerOrder, writerOrder, verdictOrder, listingOrder, replayOrder, Refuses, Accepts, speaks, rests, none, also}
-use Rattle.rack.specs.Outcome.{ofFile, NoneShort, holding, zeroed}
-use Rattle.rack.specs.CaseFileOutcome.{ReaderIs, logStretch, LogIs, ofCase, FileShort, FileEnough, WriterIs}
+use Rattle.rack.specs.Refusal.{Own, readerOrder, writerOrder, verdictOrder, listingOrder, replayOrder, none, also}
+use Rattle.rack.specs.Outcome.{ofFile, NoneSays, NoneRests, holding, zeroed}
+use Rattle.rack.specs.CaseFileOutcome.{ReaderIs, logStretch, LogIs, noFile, WriterSays, no-file, room-short, WriterRests, some-file, room-long, WriterIs}
 use Rattle.rack.specs.CaseFileOutcome as file
-use Rattle.rack.specs.VerdictOutcome.{ofVerdict, Fits, TooLong, RunShort, matching-short, other-short, RunsFit, VerdictIs, faulty, safe, ambiguous}
+use Rattle.rack.specs.VerdictOutcome.{ofVerdict, Fits, TooLong, RunShort, matching-short, other-short, RunsFit, VerdictSays, none-explains, run-short}
+use Rattle.rack.specs.VerdictOutcome.{VerdictRests, one-explains, runs-fit, VerdictRefuses, VerdictAccepts, VerdictIs, faulty, safe, ambiguous}
 use Rattle.rack.specs.VerdictOutcome as judge
-use Rattle.rack.specs.ListingOutcome.{ofListing, NextShort, NextFits, ListingIs}
+use Rattle.rack.specs.ListingOutcome.{ofListing, NextShort, NextFits, ListingSays, limit-over, given-bad, next-short}
+use Rattle.rack.specs.ListingOutcome.{ListingRests, limit-kept, given-fine, next-fits, ListingRefuses, ListingAccepts, ListingIs}
 use Rattle.rack.specs.ListingOutcome as list
 use Rattle.rack.specs.ReplayOutcome.{replayOf, replayRefused, ReplayIs}
 use Rattle.rack.specs.ReplayOutcome as replay
@@ -33,24 +35,21 @@ use Rattle.rack.specs.declared.Listed.the-variants as Listing
 use Rattle.rack.specs.declared.Replayed.{Replayed}
 use Rattle.rack.proofs.OneReading.{one-case, one-place, reads-or-breaks}
 use Rattle.rack.proofs.OneFirst.{first-one, next-one}
-use Rattle.rack.proofs.OneRefusal.{one-refusal, refuses-or-accepts}
+use Rattle.rack.proofs.OneRefusal.{against, Apart, one-refusal, refuses-or-accepts}
 
 -- ---- reader
 
-none-short : (m : ℕ) → NoneShort m → Unit {0} → ⊥
-none-short m x y = x
-
-none-one : (m n : ℕ) → NoneShort m → NoneShort n → m ≡ n
-none-one m n x y = absurd x
+none-apart : Apart NoneSays NoneRests
+none-apart = record { not-both = λ x y. x; one-beside = λ x y. absurd x }
 
 pub reader-one : {f : List ℕ} {x y : Reading} → ReaderIs f x → ReaderIs f y → x ≡ y
 reader-one {f} (file.read a) (file.read b) = ap (λ (c : Case). record { outcome = Reader.Whole; case = c }) (one-case a b)
 reader-one {f} (file.read {c} a) (file.refused {n} {m} b) =
-    absurd (refuses-or-accepts (ofFile f) NoneShort (Unit {0}) none-short none-one readerOrder n m b (also (record { case = c; reads = a; is = tt }) none))
+    absurd (refuses-or-accepts (ofFile f) NoneSays NoneRests none-apart readerOrder n m b (also (record { case = c; reads = a; is = tt }) none))
 reader-one {f} (file.refused {n} {m} a) (file.read {c} b) =
-    absurd (refuses-or-accepts (ofFile f) NoneShort (Unit {0}) none-short none-one readerOrder n m a (also (record { case = c; reads = b; is = tt }) none))
+    absurd (refuses-or-accepts (ofFile f) NoneSays NoneRests none-apart readerOrder n m a (also (record { case = c; reads = b; is = tt }) none))
 reader-one {f} (file.refused {n} {m} a) (file.refused {n = n′} {m = m′} b) =
-    let e = one-refusal (ofFile f) NoneShort (Unit {0}) none-short none-one readerOrder n m n′ m′ a b in
+    let e = one-refusal (ofFile f) NoneSays NoneRests none-apart readerOrder n m n′ m′ a b in
     ap₂ (λ (n m : ℕ). record { outcome = Reader.Refused n m; case = zeroCase }) (e .0) (e .1)
 
 -- ---- log
@@ -63,20 +62,26 @@ log-one (file.refused a) (file.refused b) = refl
 
 -- ---- writer
 
-file-short : (c : Case) (room : List ℕ) (m : ℕ) → FileShort c room m → FileEnough c room → ⊥
-file-short c room m x y = omega (arith, x .0, y)
+module _ (c : Case) (room : List ℕ) where
+  written-or-not : {k : Own} {m : ℕ} → WriterSays c room k m → WriterRests c room k → ⊥
+  written-or-not (no-file x) (some-file y) = x y
+  written-or-not (room-short x) (room-long y) = omega (arith, x, y)
 
-file-one : (c : Case) (room : List ℕ) (m n : ℕ) → FileShort c room m → FileShort c room n → m ≡ n
-file-one c room m n x y = x .1 ∙ sym (y .1)
+  written-beside : {k : Own} {m n : ℕ} → WriterSays c room k m → WriterSays c room k n → m ≡ n
+  written-beside (no-file x) (no-file y) = refl
+  written-beside (room-short x) (room-short y) = refl
+
+  writer-apart : Apart (WriterSays c room) (WriterRests c room)
+  writer-apart = record { not-both = written-or-not; one-beside = written-beside }
 
 pub writer-one : {c : Case} {room : List ℕ} {x y : Written} {a b : List ℕ} → WriterIs c room x a → WriterIs c room y b → (x ≡ y) × (a ≡ b)
 writer-one (file.written p) (file.written q) = (refl, refl)
 writer-one {c} {room} (file.written p) (file.refused {n} {m} q) =
-    absurd (refuses-or-accepts (ofCase c) (FileShort c room) (FileEnough c room) (file-short c room) (file-one c room) writerOrder n m q p)
+    absurd (refuses-or-accepts noFile (WriterSays c room) (WriterRests c room) (writer-apart c room) writerOrder n m q p)
 writer-one {c} {room} (file.refused {n} {m} p) (file.written q) =
-    absurd (refuses-or-accepts (ofCase c) (FileShort c room) (FileEnough c room) (file-short c room) (file-one c room) writerOrder n m p q)
+    absurd (refuses-or-accepts noFile (WriterSays c room) (WriterRests c room) (writer-apart c room) writerOrder n m p q)
 writer-one {c} {room} (file.refused {n} {m} p) (file.refused {n = n′} {m = m′} q) =
-    let e = one-refusal (ofCase c) (FileShort c room) (FileEnough c room) (file-short c room) (file-one c room) writerOrder n m n′ m′ p q in
+    let e = one-refusal noFile (WriterSays c room) (WriterRests c room) (writer-apart c room) writerOrder n m n′ m′ p q in
     (ap₂ Writer.Refused (e .0) (e .1), refl)
 
 -- ---- verdict
@@ -91,18 +96,29 @@ long-one {k = k} x y =
     x .needed ∙ ap length e ∙ sym (y .needed)
 
 module _ (f matching other work : List ℕ) where
-  run-short : (m : ℕ) → RunShort f matching other m → RunsFit f matching other → ⊥
-  run-short m (matching-short x) y = fits-or-long (y .matching-fits) x
-  run-short m (other-short h x) y = fits-or-long (y .other-fits) x
+  short-one : {m n : ℕ} → RunShort f matching other m → RunShort f matching other n → m ≡ n
+  short-one (matching-short x) (matching-short y) = long-one x y
+  short-one (matching-short x) (other-short h y) = absurd (fits-or-long h x)
+  short-one (other-short h x) (matching-short y) = absurd (fits-or-long h y)
+  short-one (other-short h x) (other-short k y) = long-one x y
 
-  run-one : (m n : ℕ) → RunShort f matching other m → RunShort f matching other n → m ≡ n
-  run-one m n (matching-short x) (matching-short y) = long-one x y
-  run-one m n (matching-short x) (other-short h y) = absurd (fits-or-long h x)
-  run-one m n (other-short h x) (matching-short y) = absurd (fits-or-long h y)
-  run-one m n (other-short h x) (other-short k y) = long-one x y
+  short-or-fit : {m : ℕ} → RunShort f matching other m → RunsFit f matching other → ⊥
+  short-or-fit (matching-short x) y = fits-or-long (y .matching-fits) x
+  short-or-fit (other-short h x) y = fits-or-long (y .other-fits) x
 
-  pub not-both : {n m : ℕ} → Refuses (ofVerdict f work) (RunShort f matching other) (RunsFit f matching other) verdictOrder n m → Accepts (ofVerdict f work) (RunsFit f matching other) verdictOrder → ⊥
-  not-both {n} {m} = refuses-or-accepts (ofVerdict f work) (RunShort f matching other) (RunsFit f matching other) run-short run-one verdictOrder n m
+  judged-or-not : {k : Own} {m : ℕ} → VerdictSays f matching other k m → VerdictRests f matching other k → ⊥
+  judged-or-not (none-explains x) (one-explains y) = against (λ c a b. a (b .0) (b .1)) x y
+  judged-or-not (run-short x) (runs-fit y) = short-or-fit x y
+
+  judged-beside : {k : Own} {m n : ℕ} → VerdictSays f matching other k m → VerdictSays f matching other k n → m ≡ n
+  judged-beside (none-explains x) (none-explains y) = refl
+  judged-beside (run-short x) (run-short y) = short-one x y
+
+  verdict-apart : Apart (VerdictSays f matching other) (VerdictRests f matching other)
+  verdict-apart = record { not-both = judged-or-not; one-beside = judged-beside }
+
+  pub not-both : {n m : ℕ} → VerdictRefuses f matching other work n m → VerdictAccepts f matching other work → ⊥
+  not-both {n} {m} = refuses-or-accepts (ofVerdict f work) (VerdictSays f matching other) (VerdictRests f matching other) verdict-apart verdictOrder n m
 
   -- a run of the one kind, where every explanation is of the other
   clash : {c d : Case} {r : List ℕ} {k j : Bool} → (k ≡ j → ⊥) → ReadsAs f c → ReadsAs f d → FirstOfKind c k r → AllOfKind d j → ⊥
@@ -144,7 +160,7 @@ module _ (f matching other work : List ℕ) where
   verdict-one (judge.refused p) (safe h q v) = absurd (not-both p h)
   verdict-one (judge.refused p) (ambiguous h q v) = absurd (not-both p h)
   verdict-one (judge.refused {n} {m} p) (judge.refused {n = n′} {m = m′} q) =
-      let e = one-refusal (ofVerdict f work) (RunShort f matching other) (RunsFit f matching other) run-short run-one verdictOrder n m n′ m′ p q in
+      let e = one-refusal (ofVerdict f work) (VerdictSays f matching other) (VerdictRests f matching other) verdict-apart verdictOrder n m n′ m′ p q in
       (ap₂ (λ (n m : ℕ). record { verdict = Verdict.Refused n m; matching = 0; other = 0 }) (e .0) (e .1), refl, refl, refl)
 
 -- ---- listing
@@ -153,14 +169,27 @@ module _ (f : List ℕ) (limit : ℕ) (asked : Asked) (room work : List ℕ) whe
   same-next : {c d : Case} {r s : List ℕ} → ReadsAs f c → ReadsAs f d → NextIs c limit asked r → NextIs d limit asked s → (c ≡ d) × (r ≡ s)
   same-next {c} {d} {r} {s} p q x y = (one-case p q, next-one x (subst (λ (e : Case). NextIs e limit asked s) (one-case q p) y))
 
-  next-short : (m : ℕ) → NextShort f limit asked room m → NextFits f limit asked room → ⊥
-  next-short m x h = omega (arith, h (x .case) (x .run) (x .reads) (x .next), x .short)
+  next-or-fits : {m : ℕ} → NextShort f limit asked room m → NextFits f limit asked room → ⊥
+  next-or-fits x h = omega (arith, h (x .case) (x .run) (x .reads) (x .next), x .short)
 
-  short-one : (m n : ℕ) → NextShort f limit asked room m → NextShort f limit asked room n → m ≡ n
-  short-one m n x y = x .needed ∙ ap length (same-next (x .reads) (y .reads) (x .next) (y .next) .1) ∙ sym (y .needed)
+  next-beside : {m n : ℕ} → NextShort f limit asked room m → NextShort f limit asked room n → m ≡ n
+  next-beside x y = x .needed ∙ ap length (same-next (x .reads) (y .reads) (x .next) (y .next) .1) ∙ sym (y .needed)
 
-  pub not-listed : {n m : ℕ} → Refuses (ofListing f limit asked work) (NextShort f limit asked room) (NextFits f limit asked room) listingOrder n m → Accepts (ofListing f limit asked work) (NextFits f limit asked room) listingOrder → ⊥
-  not-listed {n} {m} = refuses-or-accepts (ofListing f limit asked work) (NextShort f limit asked room) (NextFits f limit asked room) next-short short-one listingOrder n m
+  listed-or-not : {k : Own} {m : ℕ} → ListingSays f limit asked room k m → ListingRests f limit asked room k → ⊥
+  listed-or-not (limit-over x) (limit-kept y) = omega (arith, x, y)
+  listed-or-not (given-bad x) (given-fine y) = against (λ c a b. b a) x y
+  listed-or-not (next-short x) (next-fits y) = next-or-fits x y
+
+  listed-beside : {k : Own} {m n : ℕ} → ListingSays f limit asked room k m → ListingSays f limit asked room k n → m ≡ n
+  listed-beside (limit-over x) (limit-over y) = refl
+  listed-beside (given-bad x) (given-bad y) = refl
+  listed-beside (next-short x) (next-short y) = next-beside x y
+
+  listing-apart : Apart (ListingSays f limit asked room) (ListingRests f limit asked room)
+  listing-apart = record { not-both = listed-or-not; one-beside = listed-beside }
+
+  pub not-listed : {n m : ℕ} → ListingRefuses f limit asked room work n m → ListingAccepts f limit asked room work → ⊥
+  not-listed {n} {m} = refuses-or-accepts (ofListing f work) (ListingSays f limit asked room) (ListingRests f limit asked room) listing-apart listingOrder n m
 
   -- the run given is marked in one way, and there is none at the end
   marked-one : {c d : Case} {r s : List ℕ} → ReadsAs f c → ReadsAs f d → NextIs c limit asked r → NextIs d limit asked s → matches c r ≡ true → matches d s ≡ false → ⊥
@@ -190,15 +219,15 @@ module _ (f : List ℕ) (limit : ℕ) (asked : Asked) (room work : List ℕ) whe
   listing-one (list.refused p) (list.other h q v t) = absurd (not-listed p h)
   listing-one (list.refused p) (list.end h q v) = absurd (not-listed p h)
   listing-one (list.refused {n} {m} p) (list.refused {n = n′} {m = m′} q) =
-      let e = one-refusal (ofListing f limit asked work) (NextShort f limit asked room) (NextFits f limit asked room) next-short short-one listingOrder n m n′ m′ p q in
+      let e = one-refusal (ofListing f work) (ListingSays f limit asked room) (ListingRests f limit asked room) listing-apart listingOrder n m n′ m′ p q in
       (ap₂ Listing.Refused (e .0) (e .1), refl, refl)
 
 -- ---- replay
 
 pub replay-one : {f run : List ℕ} {budget : ℕ} {x y : Replayed} → ReplayIs f run budget x → ReplayIs f run budget y → x ≡ y
 replay-one {f} {run} {budget} (replay.replayed g p) (replay.replayed h q) = ap (λ (c : Case). replayOf c run budget) (one-case p q)
-replay-one {f} (replay.replayed g p) (replay.refused {n} {m} q) = absurd (refuses-or-accepts (ofFile f) NoneShort (Unit {0}) none-short none-one replayOrder n m q g)
-replay-one {f} (replay.refused {n} {m} p) (replay.replayed h q) = absurd (refuses-or-accepts (ofFile f) NoneShort (Unit {0}) none-short none-one replayOrder n m p h)
+replay-one {f} (replay.replayed g p) (replay.refused {n} {m} q) = absurd (refuses-or-accepts (ofFile f) NoneSays NoneRests none-apart replayOrder n m q g)
+replay-one {f} (replay.refused {n} {m} p) (replay.replayed h q) = absurd (refuses-or-accepts (ofFile f) NoneSays NoneRests none-apart replayOrder n m p h)
 replay-one {f} (replay.refused {n} {m} p) (replay.refused {n = n′} {m = m′} q) =
-    let e = one-refusal (ofFile f) NoneShort (Unit {0}) none-short none-one replayOrder n m n′ m′ p q in
+    let e = one-refusal (ofFile f) NoneSays NoneRests none-apart replayOrder n m n′ m′ p q in
     ap₂ replayRefused (e .0) (e .1)

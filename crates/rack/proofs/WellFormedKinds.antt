@@ -21,7 +21,9 @@ use Rattle.rack.specs.WellFormed.{SlotsFit, RowsFit, NetFits, ArcsFit, P
 use Rattle.rack.specs.declared.Pairs.{Pairs}
 use Rattle.rack.specs.declared.Bounds.{Bounds}
 use Rattle.rack.specs.declared.Log.{Log}
-use Rattle.rack.proofs.WellFormedLists.{zeros, length-part, every-at, all-below, same-column, set-keeps, marked-keeps, length-marked, marked-other, length-filled, filled-in, filled-beyond, filled-keeps, length-table, table-at, Spot, before, inside, after, spot, length-put, put-before, put-after, put-both}
+use Rattle.rack.proofs.WellFormedLists.{zeros, length-part, every-at, all-below, same-column, set-keeps, marked-keeps, length-marked, marked-other}
+use Rattle.rack.proofs.WellFormedLists.{length-filled, filled-in, filled-beyond, filled-keeps, length-table, table-at}
+use Rattle.rack.proofs.WellFormedLists.{Spot, before, inside, after, spot, length-put, put-before, put-after, put-both}
 
 -- ---- slots
 
@@ -191,7 +193,9 @@ module _ {transitions : ℕ} {c : Pairs} (s : PairsFit transitions c) where
           (s .rises k l)
       go k h false e =
           let q : k + 1 ≡ n = omega (arith, ltb-false (k + 1) n e) in
-          rw (getD-set-other (c .higher) n k x 0 (omega arith), getD-set-other (c .lower) n k y 0 (omega arith), q, getD-set-same (c .higher) n x 0 (omega (arith, s .highers .long, w .few)), getD-set-same (c .lower) n y 0 (omega (arith, s .lowers .long, w .few)))
+          let higher = getD-set-same (c .higher) n x 0 (omega (arith, s .highers .long, w .few)) in
+          let lower = getD-set-same (c .lower) n y 0 (omega (arith, s .lowers .long, w .few)) in
+          rw (getD-set-other (c .higher) n k x 0 (omega arith), getD-set-other (c .lower) n k y 0 (omega arith), q, higher, lower)
           (last k q (w .rises))
 
   -- more transitions

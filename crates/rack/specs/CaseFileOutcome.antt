@@ -5,11 +5,10 @@ use mathlib.Core.Path.{_≡_}
 use mathlib.Core.List.{List, []}
 use lib.ListN.{length}
 use Rattle.rack.specs.Bytes.{part}
-use Rattle.rack.specs.Listing.{from-start}
 use Rattle.rack.specs.Layout.{zeroCase, ReadsAs, BreaksAt}
-use Rattle.rack.specs.Writing.{bytesOf}
-use Rattle.rack.specs.Refusal.{Question, Refuses, Accepts, readerOrder, writerOrder}
-use Rattle.rack.specs.Outcome.{ofFile, NoneShort, holding}
+use Rattle.rack.specs.Writing.{Writable, bytesOf}
+use Rattle.rack.specs.Refusal.{Own, lent-room, unwritable, Question, Refuses, Accepts, readerOrder, writerOrder}
+use Rattle.rack.specs.Outcome.{ofFile, NoneSays, NoneRests, holding}
 use Rattle.rack.specs.declared.Case.{Case}
 use Rattle.rack.specs.declared.Outcome.the-variants as Reader
 use Rattle.rack.specs.declared.Reading.{Reading}
@@ -18,9 +17,12 @@ use Rattle.rack.specs.declared.Written.the-variants as Writer
 
 -- ---- reader
 
+abbrev pub ReaderRefuses : List ℕ → ℕ → ℕ → Type 0
+ReaderRefuses f n m = Refuses (ofFile f) NoneSays NoneRests readerOrder n m
+
 pub data ReaderIs (f : List ℕ) : Reading → Type 0 where
   read : {c : Case} → ReadsAs f c → ReaderIs f (record { outcome = Reader.Whole; case = c })
-  refused : {n m : ℕ} → Refuses (ofFile f) NoneShort (Unit {0}) readerOrder n m → ReaderIs f (record { outcome = Reader.Refused n m; case = zeroCase })
+  refused : {n m : ℕ} → ReaderRefuses f n m → ReaderIs f (record { outcome = Reader.Refused n m; case = zeroCase })
 
 -- ---- log: "a record's body is shown as the stretch of the caller's file that holds the labels; it is empty for a file refused by 2".
 -- The labels stand before EN's two bytes, at the file's end.
@@ -34,16 +36,29 @@ pub data LogIs (f : List ℕ) : List ℕ → Type 0 where
 
 -- ---- writer
 
-abbrev pub ofCase : Case → Question
-ofCase c = record { file = []; work = 0; limited = 0; asked = from-start; case = c }
+-- "The longest file has 2,496 bytes."
+abbrev pub longestFile : ℕ
+longestFile = 2496
 
--- 11: the room is shorter than the file
-abbrev pub FileShort : Case → List ℕ → ℕ → Type 0
-FileShort c room n = (length room < length (bytesOf c)) × (n ≡ length (bytesOf c))
+-- the writer is asked no file: all its checks are its own
+abbrev pub noFile : Question
+noFile = ofFile []
 
-abbrev pub FileEnough : Case → List ℕ → Type 0
-FileEnough c room = length (bytesOf c) ≤ length room
+-- 14: "a case to be written is not what any well-formed file reads as"; 11: the room is shorter than the file
+pub data WriterSays (c : Case) (room : List ℕ) : Own → ℕ → Type 0 where
+  no-file : (Writable c → ⊥) → WriterSays c room unwritable 0
+  room-short : length room < length (bytesOf c) → WriterSays c room lent-room (length (bytesOf c))
+
+pub data WriterRests (c : Case) (room : List ℕ) : Own → Type 0 where
+  some-file : Writable c → WriterRests c room unwritable
+  room-long : length (bytesOf c) ≤ length room → WriterRests c room lent-room
+
+abbrev pub WriterRefuses : Case → List ℕ → ℕ → ℕ → Type 0
+WriterRefuses c room n m = Refuses noFile (WriterSays c room) (WriterRests c room) writerOrder n m
+
+abbrev pub WriterAccepts : Case → List ℕ → Type 0
+WriterAccepts c room = Accepts noFile (WriterRests c room) writerOrder
 
 pub data WriterIs (c : Case) (room : List ℕ) : Written → List ℕ → Type 0 where
-  written : Accepts (ofCase c) (FileEnough c room) writerOrder → WriterIs c room (Writer.Bytes (length (bytesOf c))) (holding (bytesOf c) room)
-  refused : {n m : ℕ} → Refuses (ofCase c) (FileShort c room) (FileEnough c room) writerOrder n m → WriterIs c room (Writer.Refused n m) room
+  written : WriterAccepts c room → WriterIs c room (Writer.Bytes (length (bytesOf c))) (holding (bytesOf c) room)
+  refused : {n m : ℕ} → WriterRefuses c room n m → WriterIs c room (Writer.Refused n m) room

@@ -3,17 +3,18 @@
 use Prim.Native.Nat.{ℕ}
 use mathlib.Core.List.{List, _++_}
 use lib.ListN.{length, drop, replicate}
-use Rattle.rack.specs.Listing.{from-start}
-use Rattle.rack.specs.Layout.{zeroCase}
-use Rattle.rack.specs.Refusal.{Question}
+use Rattle.rack.specs.Refusal.{Own, Question}
 
 -- what a call is asked that has a file and nothing else that its checks look at
 abbrev pub ofFile : List ℕ → Question
-ofFile f = record { file = f; work = 0; limited = 0; asked = from-start; case = zeroCase }
+ofFile f = record { file = f; work = 0; needed = 0 }
 
--- where nothing is written, no room is short
-abbrev pub NoneShort : ℕ → Type 0
-NoneShort n = ⊥
+-- a call that makes no check of its own
+abbrev pub NoneSays : Own → ℕ → Type 0
+NoneSays k n = ⊥
+
+abbrev pub NoneRests : Own → Type 0
+NoneRests k = Unit {0}
 
 -- "Listing and writer too change only the bytes of the run or file they give": room with l at its front
 abbrev pub holding : List ℕ → List ℕ → List ℕ

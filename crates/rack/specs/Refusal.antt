@@ -1,27 +1,35 @@
 -- The refusals: one table of what each check speaks of, and the order in which a call makes its checks.
 -- Assumes nothing.
-use Prim.Native.Nat.{ℕ, _+_, _<_, _≤_}
+use Prim.Native.Nat.{ℕ, _<_, _≤_}
 use mathlib.Core.Path.{_≡_}
 use mathlib.Core.Bool.{Bool, true, false, not, _&&_}
-use mathlib.Core.List.{List, [], _∷_, List·Memᴰ}
-use mathlib.Core.Logic.{_⊎_}
-use lib.ListN.{length, getD}
+use mathlib.Core.List.{List, [], _∷_, _++_}
+use lib.ListN.{getD}
 use lib.Dec.{T, ltb, eqb}
 use Rattle.walks.specs.Walk.{walks, ends}
 use Rattle.walks.specs.Few.{AtMost, MoreThan}
 use Rattle.rack.specs.Net.{firable, within}
 use Rattle.rack.specs.Follow.{ProductMarking, patternEnabled, patternFired, joins, final, step}
 use Rattle.rack.specs.Reach.{PatternReaches, ProductReaches}
-use Rattle.rack.specs.Run.{Explains}
-use Rattle.rack.specs.Verdict.{NoneExplains}
-use Rattle.rack.specs.Listing.{Asked, from-start, after}
 use Rattle.rack.specs.Layout.{ReadsAs, BreaksAt}
-use Rattle.rack.specs.Writing.{Writable}
 use Rattle.rack.specs.declared.Case.{Case}
 
--- the checks of the table "Refusal numbers", and their numbers
+-- the checks of the table "Refusal numbers", and their numbers. Those that only some calls make are their own: what such a check speaks of stands
+-- beside the outcome of the call that makes it.
+pub data Own : Type 0 where
+  unexplained lent-room limit given-run unwritable : Own
+
+abbrev pub ownNumber : Own → ℕ
+ownNumber unexplained = 10
+ownNumber lent-room = 11
+ownNumber limit = 12
+ownNumber given-run = 13
+ownNumber unwritable = 14
+
+-- the common ones, 1 to 9, and one of a call's own
 pub data Check : Type 0 where
-  work-room layout cycle pattern-count pattern-cap two-join final-left product-count system-cap unexplained lent-room limit given-run unwritable : Check
+  work-room layout cycle pattern-count pattern-cap two-join final-left product-count system-cap : Check
+  own : Own → Check
 
 abbrev pub number : Check → ℕ
 number work-room = 1
@@ -33,15 +41,18 @@ number two-join = 6
 number final-left = 7
 number product-count = 8
 number system-cap = 9
-number unexplained = 10
-number lent-room = 11
-number limit = 12
-number given-run = 13
-number unwritable = 14
+number (own k) = ownNumber k
 
 -- "work room is under 57,344 bytes"
 abbrev pub workRoom : ℕ
 workRoom = 57344
+
+-- "over 64 pattern markings are reachable in the pattern alone", "over 512 product markings are reachable"
+abbrev pub patternMost : ℕ
+patternMost = 64
+
+abbrev pub productMost : ℕ
+productMost = 512
 
 -- ---- what the checks on the nets of a case speak of
 
@@ -100,27 +111,20 @@ pub record SystemOver (c : Case) : Type 0 where
 -- none of the checks 3 to 9 speaks of a case
 pub record NetsPass (c : Case) : Type 0 where
   pub no-cycle : PairCycle c → ⊥
-  pub pattern-few : AtMost 64 (PatternReaches c)
+  pub pattern-few : AtMost patternMost (PatternReaches c)
   pub pattern-capped : PatternOver c → ⊥
   pub one-joins : TwoJoin c → ⊥
   pub final-stays : FinalLeft c → ⊥
-  pub product-few : AtMost 512 (ProductReaches c)
+  pub product-few : AtMost productMost (ProductReaches c)
   pub system-capped : SystemOver c → ⊥
-
--- 13: "the listing's given run is longer than the limit or holds a number that is no transition"; from the start none is given
-abbrev pub GivenBad : Case → ℕ → Asked → Type 0
-GivenBad c n from-start = ⊥
-GivenBad c n (after g) = (n < length g) ⊎ ((t : ℕ) × (List·Memᴰ t g × (c .arcs .count ≤ t)))
 
 -- ---- the table
 
--- what a call is asked, as far as a check may look at it; what a call has none of is never looked at by its checks
+-- what a call is asked, as far as the common checks look at it: its file, how long its work room is, and how long that room must be
 pub record Question : Type 0 where
   pub file : List ℕ
   pub work : ℕ
-  pub limited : ℕ
-  pub asked : Asked
-  pub case : Case
+  pub needed : ℕ
 
 -- the file reads as a case of which P holds
 pub record OfCase (f : List ℕ) (P : Case → Type 0) : Type 0 where
@@ -128,39 +132,31 @@ pub record OfCase (f : List ℕ) (P : Case → Type 0) : Type 0 where
   pub reads : ReadsAs f case
   pub is : P case
 
--- "Given exactly when no earlier check speaks and ..", "Number beside it". Short n: room is shorter than the n bytes that must be written.
-abbrev pub Speaks : Question → (ℕ → Type 0) → Check → ℕ → Type 0
-Speaks q Short work-room n = (q .work < workRoom) × (n ≡ 0)
-Speaks q Short layout n = BreaksAt (q .file) n
-Speaks q Short cycle n = OfCase (q .file) PairCycle × (n ≡ 0)
-Speaks q Short pattern-count n = OfCase (q .file) (λ c. MoreThan 64 (PatternReaches c)) × (n ≡ 0)
-Speaks q Short pattern-cap n = OfCase (q .file) PatternOver × (n ≡ 0)
-Speaks q Short two-join n = OfCase (q .file) TwoJoin × (n ≡ 0)
-Speaks q Short final-left n = OfCase (q .file) FinalLeft × (n ≡ 0)
-Speaks q Short product-count n = OfCase (q .file) (λ c. MoreThan 512 (ProductReaches c)) × (n ≡ 0)
-Speaks q Short system-cap n = OfCase (q .file) SystemOver × (n ≡ 0)
-Speaks q Short unexplained n = OfCase (q .file) NoneExplains × (n ≡ 0)
-Speaks q Short lent-room n = Short n
-Speaks q Short limit n = (24 < q .limited) × (n ≡ 0)
-Speaks q Short given-run n = OfCase (q .file) (λ c. GivenBad c (q .limited) (q .asked)) × (n ≡ 0)
-Speaks q Short unwritable n = (Writable (q .case) → ⊥) × (n ≡ 0)
+-- "Given exactly when no earlier check speaks and ..", "Number beside it". Says k n: the call's own check k speaks, with n beside it.
+abbrev pub Speaks : Question → (Own → ℕ → Type 0) → Check → ℕ → Type 0
+Speaks q Says work-room n = (q .work < q .needed) × (n ≡ 0)
+Speaks q Says layout n = BreaksAt (q .file) n
+Speaks q Says cycle n = OfCase (q .file) PairCycle × (n ≡ 0)
+Speaks q Says pattern-count n = OfCase (q .file) (λ c. MoreThan patternMost (PatternReaches c)) × (n ≡ 0)
+Speaks q Says pattern-cap n = OfCase (q .file) PatternOver × (n ≡ 0)
+Speaks q Says two-join n = OfCase (q .file) TwoJoin × (n ≡ 0)
+Speaks q Says final-left n = OfCase (q .file) FinalLeft × (n ≡ 0)
+Speaks q Says product-count n = OfCase (q .file) (λ c. MoreThan productMost (ProductReaches c)) × (n ≡ 0)
+Speaks q Says system-cap n = OfCase (q .file) SystemOver × (n ≡ 0)
+Speaks q Says (own k) n = Says k n
 
--- the opposite of each: the check has nothing to say. Enough: room is long enough for what must be written.
-abbrev pub Silent : Question → Type 0 → Check → Type 0
-Silent q Enough work-room = workRoom ≤ q .work
-Silent q Enough layout = OfCase (q .file) (λ c. Unit {0})
-Silent q Enough cycle = OfCase (q .file) (λ c. PairCycle c → ⊥)
-Silent q Enough pattern-count = OfCase (q .file) (λ c. AtMost 64 (PatternReaches c))
-Silent q Enough pattern-cap = OfCase (q .file) (λ c. PatternOver c → ⊥)
-Silent q Enough two-join = OfCase (q .file) (λ c. TwoJoin c → ⊥)
-Silent q Enough final-left = OfCase (q .file) (λ c. FinalLeft c → ⊥)
-Silent q Enough product-count = OfCase (q .file) (λ c. AtMost 512 (ProductReaches c))
-Silent q Enough system-cap = OfCase (q .file) (λ c. SystemOver c → ⊥)
-Silent q Enough unexplained = OfCase (q .file) (λ c. (r : List ℕ) × Explains c r)
-Silent q Enough lent-room = Enough
-Silent q Enough limit = q .limited ≤ 24
-Silent q Enough given-run = OfCase (q .file) (λ c. GivenBad c (q .limited) (q .asked) → ⊥)
-Silent q Enough unwritable = Writable (q .case)
+-- the opposite of each: the check has nothing to say. Rests k: the call's own check k has not.
+abbrev pub Silent : Question → (Own → Type 0) → Check → Type 0
+Silent q Rests work-room = q .needed ≤ q .work
+Silent q Rests layout = OfCase (q .file) (λ c. Unit {0})
+Silent q Rests cycle = OfCase (q .file) (λ c. PairCycle c → ⊥)
+Silent q Rests pattern-count = OfCase (q .file) (λ c. AtMost patternMost (PatternReaches c))
+Silent q Rests pattern-cap = OfCase (q .file) (λ c. PatternOver c → ⊥)
+Silent q Rests two-join = OfCase (q .file) (λ c. TwoJoin c → ⊥)
+Silent q Rests final-left = OfCase (q .file) (λ c. FinalLeft c → ⊥)
+Silent q Rests product-count = OfCase (q .file) (λ c. AtMost productMost (ProductReaches c))
+Silent q Rests system-cap = OfCase (q .file) (λ c. SystemOver c → ⊥)
+Silent q Rests (own k) = Rests k
 
 -- ---- the order of the checks
 
@@ -174,26 +170,33 @@ pub data AllSilent (Rests : Check → Type 0) : List Check → Type 0 where
   none : AllSilent Rests []
   also : {k : Check} {ks : List Check} → Rests k → AllSilent Rests ks → AllSilent Rests (k ∷ ks)
 
+-- the checks on the nets of a case, 3 to 9, and all that are common, 1 to 9
+abbrev pub netOrder : List Check
+netOrder = cycle ∷ pattern-count ∷ pattern-cap ∷ two-join ∷ final-left ∷ product-count ∷ system-cap ∷ []
+
+abbrev pub commonOrder : List Check
+commonOrder = work-room ∷ layout ∷ netOrder
+
 -- "Checks by call. Reader: 2. Verdict: 1 to 11 in order. Listing: 1, 12, 2 to 9, 13, 11. Writer: 14, 11. Replay: 2 to 7."
 abbrev pub readerOrder : List Check
 readerOrder = layout ∷ []
 
 abbrev pub verdictOrder : List Check
-verdictOrder = work-room ∷ layout ∷ cycle ∷ pattern-count ∷ pattern-cap ∷ two-join ∷ final-left ∷ product-count ∷ system-cap ∷ unexplained ∷ lent-room ∷ []
+verdictOrder = commonOrder ++ (own unexplained ∷ own lent-room ∷ [])
 
 abbrev pub listingOrder : List Check
-listingOrder = work-room ∷ limit ∷ layout ∷ cycle ∷ pattern-count ∷ pattern-cap ∷ two-join ∷ final-left ∷ product-count ∷ system-cap ∷ given-run ∷ lent-room ∷ []
+listingOrder = work-room ∷ own limit ∷ layout ∷ (netOrder ++ (own given-run ∷ own lent-room ∷ []))
 
 abbrev pub writerOrder : List Check
-writerOrder = unwritable ∷ lent-room ∷ []
+writerOrder = own unwritable ∷ own lent-room ∷ []
 
 abbrev pub replayOrder : List Check
 replayOrder = layout ∷ cycle ∷ pattern-count ∷ pattern-cap ∷ two-join ∷ final-left ∷ []
 
 -- a call that asks q makes the checks ks: the first that speaks is n, with m beside it
-abbrev pub Refuses : Question → (ℕ → Type 0) → Type 0 → List Check → ℕ → ℕ → Type 0
-Refuses q Short Enough ks n m = FirstToSpeak (Speaks q Short) (Silent q Enough) ks n m
+abbrev pub Refuses : Question → (Own → ℕ → Type 0) → (Own → Type 0) → List Check → ℕ → ℕ → Type 0
+Refuses q Says Rests ks n m = FirstToSpeak (Speaks q Says) (Silent q Rests) ks n m
 
 -- none speaks
-abbrev pub Accepts : Question → Type 0 → List Check → Type 0
-Accepts q Enough ks = AllSilent (Silent q Enough) ks
+abbrev pub Accepts : Question → (Own → Type 0) → List Check → Type 0
+Accepts q Rests ks = AllSilent (Silent q Rests) ks

@@ -8,7 +8,7 @@ use Rattle.rack.specs.Follow.{ProductMarking, final}
 use Rattle.rack.specs.Replay.{count, reached, reason, saysExplains}
 use Rattle.rack.specs.Layout.{ReadsAs}
 use Rattle.rack.specs.Refusal.{Refuses, Accepts, replayOrder}
-use Rattle.rack.specs.Outcome.{ofFile, NoneShort}
+use Rattle.rack.specs.Outcome.{ofFile, NoneSays, NoneRests}
 use Rattle.rack.specs.declared.Case.{Case}
 use Rattle.rack.specs.declared.Stop.the-variants as Replay
 use Rattle.rack.specs.declared.Replayed.{Replayed}
@@ -38,6 +38,12 @@ replayRefused n m =
       explains = false;
     }
 
+abbrev pub ReplayRefuses : List ℕ → ℕ → ℕ → Type 0
+ReplayRefuses f n m = Refuses (ofFile f) NoneSays NoneRests replayOrder n m
+
+abbrev pub ReplayAccepts : List ℕ → Type 0
+ReplayAccepts f = Accepts (ofFile f) NoneRests replayOrder
+
 pub data ReplayIs (f run : List ℕ) (budget : ℕ) : Replayed → Type 0 where
-  replayed : {c : Case} → Accepts (ofFile f) (Unit {0}) replayOrder → ReadsAs f c → ReplayIs f run budget (replayOf c run budget)
-  refused : {n m : ℕ} → Refuses (ofFile f) NoneShort (Unit {0}) replayOrder n m → ReplayIs f run budget (replayRefused n m)
+  replayed : {c : Case} → ReplayAccepts f → ReadsAs f c → ReplayIs f run budget (replayOf c run budget)
+  refused : {n m : ℕ} → ReplayRefuses f n m → ReplayIs f run budget (replayRefused n m)

@@ -5,17 +5,17 @@ use mathlib.Core.Path.{_≡_}
 use mathlib.Core.Bool.{Bool, true, false}
 use mathlib.Core.List.{List}
 use lib.ListN.{length}
-use Rattle.rack.specs.Verdict.{FirstOfKind, IsFaulty, IsSafe, IsAmbiguous}
-use Rattle.rack.specs.Listing.{from-start}
-use Rattle.rack.specs.Layout.{zeroCase, ReadsAs}
-use Rattle.rack.specs.Refusal.{Question, Refuses, Accepts, verdictOrder}
+use Rattle.rack.specs.Run.{Explains}
+use Rattle.rack.specs.Verdict.{FirstOfKind, NoneExplains, IsFaulty, IsSafe, IsAmbiguous}
+use Rattle.rack.specs.Layout.{ReadsAs}
+use Rattle.rack.specs.Refusal.{Own, unexplained, lent-room, workRoom, Question, OfCase, Refuses, Accepts, verdictOrder}
 use Rattle.rack.specs.Outcome.{holding, zeroed}
 use Rattle.rack.specs.declared.Case.{Case}
 use Rattle.rack.specs.declared.Verdict.the-variants as Verdict
 use Rattle.rack.specs.declared.Judged.{Judged}
 
 abbrev pub ofVerdict : List ℕ → List ℕ → Question
-ofVerdict f work = record { file = f; work = length work; limited = 0; asked = from-start; case = zeroCase }
+ofVerdict f work = record { file = f; work = length work; needed = workRoom }
 
 -- the first run of the kind k, if there is one, fits the room
 abbrev pub Fits : List ℕ → Bool → List ℕ → Type 0
@@ -39,15 +39,30 @@ pub record RunsFit (f matching other : List ℕ) : Type 0 where
   pub matching-fits : Fits f true matching
   pub other-fits : Fits f false other
 
+-- the verdict's own checks. 10: "no run explains the log"; 11: "room is shorter than what must be written"
+pub data VerdictSays (f matching other : List ℕ) : Own → ℕ → Type 0 where
+  none-explains : OfCase f NoneExplains → VerdictSays f matching other unexplained 0
+  run-short : {n : ℕ} → RunShort f matching other n → VerdictSays f matching other lent-room n
+
+pub data VerdictRests (f matching other : List ℕ) : Own → Type 0 where
+  one-explains : OfCase f (λ c. (r : List ℕ) × Explains c r) → VerdictRests f matching other unexplained
+  runs-fit : RunsFit f matching other → VerdictRests f matching other lent-room
+
+abbrev pub VerdictRefuses : List ℕ → List ℕ → List ℕ → List ℕ → ℕ → ℕ → Type 0
+VerdictRefuses f matching other work n m = Refuses (ofVerdict f work) (VerdictSays f matching other) (VerdictRests f matching other) verdictOrder n m
+
+abbrev pub VerdictAccepts : List ℕ → List ℕ → List ℕ → List ℕ → Type 0
+VerdictAccepts f matching other work = Accepts (ofVerdict f work) (VerdictRests f matching other) verdictOrder
+
 -- "the answer carries its kind together with both lengths; a run not shown has length 0. A shown run is one byte for each firing; room
 -- beyond it is unchanged." "A refusal changes no witness .. room .., and its lengths are 0."
 -- A case file f, the matching run's room, the other run's room, the work room; the answer, and what the three rooms hold then.
 pub data VerdictIs (f matching other work : List ℕ) : Judged → List ℕ → List ℕ → List ℕ → Type 0 where
-  faulty : {c : Case} {r : List ℕ} → Accepts (ofVerdict f work) (RunsFit f matching other) verdictOrder → ReadsAs f c → IsFaulty c r
+  faulty : {c : Case} {r : List ℕ} → VerdictAccepts f matching other work → ReadsAs f c → IsFaulty c r
       → VerdictIs f matching other work (record { verdict = Verdict.Faulty; matching = length r; other = 0 }) (holding r matching) other (zeroed work)
-  safe : {c : Case} {s : List ℕ} → Accepts (ofVerdict f work) (RunsFit f matching other) verdictOrder → ReadsAs f c → IsSafe c s
+  safe : {c : Case} {s : List ℕ} → VerdictAccepts f matching other work → ReadsAs f c → IsSafe c s
       → VerdictIs f matching other work (record { verdict = Verdict.Safe; matching = 0; other = length s }) matching (holding s other) (zeroed work)
-  ambiguous : {c : Case} {r s : List ℕ} → Accepts (ofVerdict f work) (RunsFit f matching other) verdictOrder → ReadsAs f c → IsAmbiguous c r s
+  ambiguous : {c : Case} {r s : List ℕ} → VerdictAccepts f matching other work → ReadsAs f c → IsAmbiguous c r s
       → VerdictIs f matching other work (record { verdict = Verdict.Ambiguous; matching = length r; other = length s }) (holding r matching) (holding s other) (zeroed work)
-  refused : {n m : ℕ} → Refuses (ofVerdict f work) (RunShort f matching other) (RunsFit f matching other) verdictOrder n m
+  refused : {n m : ℕ} → VerdictRefuses f matching other work n m
       → VerdictIs f matching other work (record { verdict = Verdict.Refused n m; matching = 0; other = 0 }) matching other (zeroed work)

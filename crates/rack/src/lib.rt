@@ -1,6 +1,49 @@
 // The rack: the case in memory and the answers of every call. What each of them means stands in specs/, beside the sentences of
 // document 01. A case keeps one struct for each kind of record; slots that a case does not use hold zeros.
 
+// The refusal numbers, as `number` in specs/Refusal.antt has them.
+pub const REFUSED_WORK_ROOM: u8 = 1;
+
+pub const REFUSED_LAYOUT: u8 = 2;
+
+pub const REFUSED_CYCLE: u8 = 3;
+
+pub const REFUSED_PATTERN_COUNT: u8 = 4;
+
+pub const REFUSED_PATTERN_CAP: u8 = 5;
+
+pub const REFUSED_TWO_JOIN: u8 = 6;
+
+pub const REFUSED_FINAL_LEFT: u8 = 7;
+
+pub const REFUSED_PRODUCT_COUNT: u8 = 8;
+
+pub const REFUSED_SYSTEM_CAP: u8 = 9;
+
+pub const REFUSED_UNEXPLAINED: u8 = 10;
+
+pub const REFUSED_LENT_ROOM: u8 = 11;
+
+pub const REFUSED_LIMIT: u8 = 12;
+
+pub const REFUSED_GIVEN_RUN: u8 = 13;
+
+pub const REFUSED_UNWRITABLE: u8 = 14;
+
+// How long the work room of the verdict and of the listing must be: `workRoom` in specs/Refusal.antt.
+pub const WORK_ROOM: usize = 57344;
+
+// How many pattern markings and how many product markings may be reachable: `patternMost`, `productMost` in specs/Refusal.antt.
+pub const PATTERN_MOST: usize = 64;
+
+pub const PRODUCT_MOST: usize = 512;
+
+// The largest limit of the listing: `limitMost` in specs/ListingOutcome.antt.
+pub const LIMIT_MOST: usize = 24;
+
+// "The longest file has 2,496 bytes.": `longestFile` in specs/CaseFileOutcome.antt.
+pub const LONGEST_FILE: usize = 2496;
+
 // NT: how many places the system has, its cap, and each place's first tokens.
 pub struct Net {
     pub places: u8,

@@ -15,6 +15,7 @@ use marks::may_follow;
 use marks::number_of;
 use rack::Mark;
 use rack::Outcome;
+use rack::REFUSED_LAYOUT;
 use rack::Reading;
 use records::read_record;
 use slots::add_lg;
@@ -41,7 +42,7 @@ fn refused(place: usize) -> Reading
     ensures { λ r. ⌜ r ≡ refusal place ⌝ }
 {
     Reading {
-        outcome: Outcome::Refused(2, place),
+        outcome: Outcome::Refused(REFUSED_LAYOUT, place),
         case: zero_case(),
     }
 }

@@ -12,7 +12,7 @@ use Rattle.walks.specs.Walk.{walks}
 use Rattle.walks.proofs.Tests.{and-left, and-both, is-true}
 use Rattle.walks.proofs.Closed.{walks-cons}
 use Rattle.rack.specs.Follow.{ProductMarking, final, start, step}
-use Rattle.rack.specs.Outcome.{ofFile, NoneShort}
+use Rattle.rack.specs.Outcome.{ofFile, NoneSays, NoneRests}
 use Rattle.rack.specs.CaseFileOutcome.{ReaderIs}
 use Rattle.rack.specs.CaseFileOutcome as reader
 use Rattle.rack.specs.Reach.{productWithin}
@@ -96,14 +96,14 @@ module _ {f run : List ℕ} {budget : ℕ} {r : Reading} {x : Checked} (h : Read
   nets-refuse e q =
       let reads = given-whole h whole in
       subst (ReplayIs f run budget) (sym q)
-      (refused (rests (layout-rests (ofFile f) NoneShort (Unit {0}) (r .case) reads) (lift-refuses (ofFile f) NoneShort (Unit {0}) (r .case) reads [] (subst (CheckedSays (r .case)) e y))))
+      (refused (rests (layout-rests (ofFile f) NoneSays NoneRests (r .case) reads) (lift-refuses (ofFile f) NoneSays NoneRests (r .case) reads [] (subst (CheckedSays (r .case)) e y))))
 
   -- none speaks
   pub nets-pass : {a : Replayed} → x ≡ Checked.Pass → a ≡ replayOf (r .case) run budget → ReplayIs f run budget a
   nets-pass e q =
       let reads = given-whole h whole in
       subst (ReplayIs f run budget) (sym q)
-      (replayed (also (layout-rests (ofFile f) NoneShort (Unit {0}) (r .case) reads) (lift-accepts (ofFile f) NoneShort (Unit {0}) (r .case) reads (subst (CheckedSays (r .case)) e y) none)) reads)
+      (replayed (also (layout-rests (ofFile f) NoneSays NoneRests (r .case) reads) (lift-accepts (ofFile f) NoneSays NoneRests (r .case) reads (subst (CheckedSays (r .case)) e y) none)) reads)
 
 pub file-well : {f : List ℕ} {r : Reading} → ReaderIs f r → r .outcome ≡ Outcome.Whole → WellFormed (r .case)
 file-well x e = well-formed (given-whole x e)

@@ -9,6 +9,7 @@ use lib.ListN.{length, take, length-append}
 use lib.Dec.{eqb}
 use Rattle.walks.specs.Below.{pick}
 use Rattle.rack.specs.Writing.{listed, upTo, cell, rowBytes, boundPair, ntBytes, trBytes, prBytes, obBytes, ptBytes, pxBytes, qfBytes, lgBytes, enBytes, bytesOf}
+use Rattle.rack.specs.CaseFileOutcome.{longestFile}
 use Rattle.rack.specs.declared.Net.{Net}
 use Rattle.rack.specs.declared.Arcs.{Arcs}
 use Rattle.rack.specs.declared.Pairs.{Pairs}
@@ -105,7 +106,7 @@ pub bytes-parts : (c : Case) → systemBytes c ++ (patternBytes c ++ (lgBytes (c
 unfolding bytesOf systemBytes patternBytes
 bytes-parts c = simp append-assoc
 
-pub bytes-few : (c : Case) → Limits c → length (bytesOf c) ≤ 2496
+pub bytes-few : (c : Case) → Limits c → length (bytesOf c) ≤ longestFile
 bytes-few c l =
-    subst (λ (x : List ℕ). length x ≤ 2496) (bytes-parts c)
+    subst (λ (x : List ℕ). length x ≤ longestFile) (bytes-parts c)
     (simp length-append (omega (arith, system-few c l, pattern-few c l, lg-few (c .log))))

@@ -9,8 +9,8 @@ use lib.ListN.{length}
 use Rattle.rack.specs.Layout.{ReadsAs}
 use Rattle.rack.specs.Writing.{bytesOf, Writable}
 use Rattle.rack.specs.Outcome.{holding}
-use Rattle.rack.specs.Refusal.{lent-room, unwritable, speaks, rests, none, also}
-use Rattle.rack.specs.CaseFileOutcome.{ReaderIs, read, refused, WriterIs, written}
+use Rattle.rack.specs.Refusal.{speaks, rests, none, also}
+use Rattle.rack.specs.CaseFileOutcome.{ReaderIs, read, refused, no-file, room-short, some-file, room-long, WriterIs, written}
 use Rattle.rack.specs.declared.Case.{Case}
 use Rattle.rack.specs.declared.Outcome.the-variants as Reader
 use Rattle.rack.specs.declared.Reading.{Reading}
@@ -47,10 +47,11 @@ pub answer-written : {c : Case} {room₀ room : List ℕ} {n : ℕ} → Writable
     → room ≡ holding (bytesOf c) room₀ → WriterIs c room₀ (Writer.Bytes n) room
 answer-written {c} {room₀} {room} {n} w h e q =
     subst (λ (x : List ℕ). WriterIs c room₀ (Writer.Bytes n) x) (sym q)
-    (subst (λ (k : ℕ). WriterIs c room₀ (Writer.Bytes k) (holding (bytesOf c) room₀)) (sym e) (written (also w (also (omega arith) none))))
+    (subst (λ (k : ℕ). WriterIs c room₀ (Writer.Bytes k) (holding (bytesOf c) room₀)) (sym e) (written (also (some-file w) (also (room-long (omega arith)) none))))
 
 pub answer-short : {c : Case} {room : List ℕ} {n : ℕ} → Writable c → length room < n → n ≡ length (bytesOf c) → WriterIs c room (Writer.Refused 11 n) room
-answer-short w h e = refused (rests w (speaks {k = lent-room} (omega arith, e)))
+answer-short {c} {room} w h e =
+    subst (λ (k : ℕ). WriterIs c room (Writer.Refused 11 k) room) (sym e) (refused (rests (some-file w) (speaks (room-short (omega arith)))))
 
 pub answer-unwritable : {c : Case} {room : List ℕ} → (Writable c → ⊥) → WriterIs c room (Writer.Refused 14 0) room
-answer-unwritable n = refused (speaks {k = unwritable} (n, refl))
+answer-unwritable n = refused (speaks (no-file n))

@@ -7,6 +7,7 @@ use lib.ListN.{length, take}
 use lib.Seq.{take-length}
 use Rattle.rack.specs.Layout.{zeroCase, whole, Reads, done, next, ReadsAs}
 use Rattle.rack.specs.Writing.{bytesOf, Writable}
+use Rattle.rack.specs.CaseFileOutcome.{longestFile}
 use Rattle.rack.specs.declared.Case.{Case}
 use Rattle.rack.proofs.WellFormed.{well-formed}
 use Rattle.writer.specs.Limits.{Limits}
@@ -45,5 +46,5 @@ read-limits r =
     }
 
 -- "The longest file has 2,496 bytes."
-pub longest : {f : List ℕ} {c : Case} → ReadsAs f c → length f ≤ 2496
-longest {f} {c} r = subst (λ (l : List ℕ). length l ≤ 2496) (read-written r) (bytes-few c (read-limits r))
+pub longest : {f : List ℕ} {c : Case} → ReadsAs f c → length f ≤ longestFile
+longest {f} {c} r = subst (λ (l : List ℕ). length l ≤ longestFile) (read-written r) (bytes-few c (read-limits r))

@@ -17,7 +17,10 @@ use kinds::push_tr;
 use pieces::push_part;
 use pieces::push_two;
 use rack::Case;
+use rack::LONGEST_FILE;
 use rack::Outcome;
+use rack::REFUSED_LENT_ROOM;
+use rack::REFUSED_UNWRITABLE;
 use rack::Written;
 use reader::read_case;
 ghost use mathlib.Core.Path.{_≡_};
@@ -25,7 +28,7 @@ ghost use Prim.Native.Nat.{_+_, _≤_};
 ghost use lib.ListN.{length};
 ghost use Rattle.rack.specs.Layout.{ReadsAs};
 ghost use Rattle.rack.specs.Writing.{bytesOf};
-ghost use Rattle.rack.specs.CaseFileOutcome.{WriterIs};
+ghost use Rattle.rack.specs.CaseFileOutcome.{longestFile, WriterIs};
 ghost use Rattle.writer.specs.Limits.{Limits};
 ghost use Rattle.writer.specs.Puts.{Puts, systemBytes, patternBytes};
 ghost use Rattle.walks.specs.Says.{Says};
@@ -81,7 +84,7 @@ fn push_pattern(room: &mut [u8], at: usize, c: Case) -> usize
 
 // Puts all records of a case, in the table's order, to the front of a room, and answers how long they are.
 fn push_case(room: &mut [u8], c: Case) -> usize
-    requires { ⌜ (2496 ≤ length (now room)) × Limits c ⌝ }
+    requires { ⌜ (longestFile ≤ length (now room)) × Limits c ⌝ }
     ensures { λ r. ⌜ Puts (now (room .entry)) 0 (now (room .exit)) r (bytesOf c) ⌝ }
 {
     let after_system = push_system(room, 0, c);
@@ -108,15 +111,15 @@ pub fn write_case(room: &mut [u8], c: Case) -> Written
     ensures { λ r. ⌜ WriterIs c (now (room .entry)) r (now (room .exit)) ⌝ }
 {
     if !within_limits(c) {
-        return Written::Refused(14, 0);
+        return Written::Refused(REFUSED_UNWRITABLE, 0);
     }
-    let mut file = [0u8; 2496];
+    let mut file = [0u8; LONGEST_FILE];
     let length = push_case(&mut file, c);
     if !reads_as(&file[..length], c) {
-        return Written::Refused(14, 0);
+        return Written::Refused(REFUSED_UNWRITABLE, 0);
     }
     if room.len() < length {
-        return Written::Refused(11, length);
+        return Written::Refused(REFUSED_LENT_ROOM, length);
     }
     push_part(room, 0, &file, length);
     Written::Bytes(length)

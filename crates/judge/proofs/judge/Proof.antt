@@ -14,7 +14,13 @@ same-length : tie.Need-same-length
 same-length c = search needs
 
 returns : tie.Need-returns
-returns c = refusal (c .before .before .before .before .before .before .before .before .before .args .file .now) (c .before .before .before .before .before .before .before .before .before .args .matching .now) (c .before .before .before .before .before .before .before .before .before .args .other .now) (c .before .before .before .before .before .before .before .before .before .args .work .now) _ _ 1 0 (short-room (c .before .before .before .before .before .before .before .before .before .args .file .now) (c .before .before .before .before .before .before .before .before .before .args .matching .now) (c .before .before .before .before .before .before .before .before .before .args .other .now) (c .before .before .before .before .before .before .before .before .before .args .work .now) (c .before .before .before .before .if1 .taken)) (c .before .before .refuse .ensures .0) (c .before .before .refuse .ensures .1)
+returns c =
+    let at-refuse = c .before .before in
+    let at-if1 = at-refuse .before .before in
+    let x = at-if1 .before .before .before .before .before .args in
+    refusal (x .file .now) (x .matching .now) (x .other .now) (x .work .now) _ _ 1 0
+    (short-room (x .file .now) (x .matching .now) (x .other .now) (x .work .now) (at-if1 .if1 .taken)) (at-refuse .refuse .ensures .0)
+    (at-refuse .refuse .ensures .1)
 
 read-case-requires : tie.Need-read-case-requires
 read-case-requires c κs = search needs
@@ -29,7 +35,16 @@ same-length-2 : tie.Need-same-length-2
 same-length-2 c = search needs
 
 returns-2 : tie.Need-returns-2
-returns-2 c = refusal (c .before .before .before .before .before .before .before .before .before .before .before .before .before .args .file .now) (c .before .before .before .before .before .before .before .before .before .before .before .before .before .args .matching .now) (c .before .before .before .before .before .before .before .before .before .before .before .before .before .args .other .now) (c .before .before .before .before .before .before .before .before .before .before .before .before .before .args .work .now) _ _ _ _ (refused-outcome (c .before .before .before .before .before .before .before .before .before .before .before .before .before .args .file .now) (c .before .before .before .before .before .before .before .before .before .before .before .before .before .args .matching .now) (c .before .before .before .before .before .before .before .before .before .before .before .before .before .args .other .now) (c .before .before .before .before .before .before .before .before .before .before .before .before .before .args .work .now) (c .before .before .before .before .before .before .before .before .if1 .left) (reader-refuses (c .before .before .before .before .before .before .before .read-case .ensures) (c .before .before .before .before .before .outcome .given .1))) (c .before .before .refuse2 .ensures .0) (c .before .before .refuse2 .ensures .1)
+returns-2 c =
+    let at-refuse2 = c .before .before in
+    let at-outcome = at-refuse2 .before .before .before in
+    let at-read-case = at-outcome .before .before in
+    let at-if1 = at-read-case .before in
+    let x = at-if1 .before .before .before .before .before .args in
+    refusal (x .file .now) (x .matching .now) (x .other .now) (x .work .now) _ _ _ _
+    (refused-outcome (x .file .now) (x .matching .now) (x .other .now) (x .work .now) (at-if1 .if1 .left)
+    (reader-refuses (at-read-case .read-case .ensures) (at-outcome .outcome .given .1))) (at-refuse2 .refuse2 .ensures .0)
+    (at-refuse2 .refuse2 .ensures .1)
 
 enum-told : tie.Need-enum-told
 enum-told c = search needs
@@ -47,10 +62,29 @@ enum-known-answer-2 : tie.Need-enum-known-answer-2
 enum-known-answer-2 c = search needs
 
 search-requires : tie.Need-search-requires
-search-requires c κs = ready (c .before .before .before .before .before .before .before .before .before .before .before .if1 .left) (c .before .before .before .before .before .before .check .ensures) (checks-pass (c .before .before .before .before .before .before .before .before .before .before .read-case .ensures) (c .before .before .before .before .before .before .before .before .enum-told .given .1) (c .before .before .before .before .before .before .check .ensures) (c .before .before .answer2 .given .1) .1)
+search-requires c κs =
+    let at-answer2 = c .before .before in
+    let at-check = at-answer2 .before .before .before .before in
+    let at-enum-told = at-check .before .before in
+    let at-read-case = at-enum-told .before .before in
+    let at-if1 = at-read-case .before in
+    ready (at-if1 .if1 .left) (at-check .check .ensures)
+    (checks-pass (at-read-case .read-case .ensures) (at-enum-told .enum-told .given .1) (at-check .check .ensures) (at-answer2 .answer2 .given .1) .1)
 
 show-requires : tie.Need-show-requires
-show-requires c κs = (ready-after (ready (c .before .before .before .before .before .before .before .before .before .before .before .before .before .before .before .before .before .if1 .left) (c .before .before .before .before .before .before .before .before .before .before .before .before .check .ensures) (checks-pass (c .before .before .before .before .before .before .before .before .before .before .before .before .before .before .before .before .read-case .ensures) (c .before .before .before .before .before .before .before .before .before .before .before .before .before .before .enum-told .given .1) (c .before .before .before .before .before .before .before .before .before .before .before .before .check .ensures) (c .before .before .before .before .before .before .before .before .answer2 .given .1) .1)) (c .before .before .before .before .before .search .ensures), (matching-kind (c .before .before .before .before .before .search .ensures), other-kind (c .before .before .before .before .before .search .ensures)))
+show-requires c κs =
+    let at-search = c .before .before .before .before .before in
+    let at-answer2 = at-search .before .before .before in
+    let at-check = at-answer2 .before .before .before .before in
+    let at-enum-told = at-check .before .before in
+    let at-read-case = at-enum-told .before .before in
+    let at-if1 = at-read-case .before in (
+      ready-after
+          (ready (at-if1 .if1 .left) (at-check .check .ensures)
+          (checks-pass (at-read-case .read-case .ensures) (at-enum-told .enum-told .given .1) (at-check .check .ensures) (at-answer2 .answer2 .given .1) .1))
+          (at-search .search .ensures),
+      (matching-kind (at-search .search .ensures), other-kind (at-search .search .ensures)),
+    )
 
 clear-requires : tie.Need-clear-requires
 clear-requires c κs = search needs
@@ -59,7 +93,18 @@ same-length-3 : tie.Need-same-length-3
 same-length-3 c = search needs
 
 returns-3 : tie.Need-returns-3
-returns-3 c = refusal (c .before .before .before .before .before .before .before .before .before .before .before .before .before .before .before .before .before .before .before .args .file .now) (c .before .before .before .before .before .before .before .before .before .before .before .before .before .before .before .before .before .before .before .args .matching .now) (c .before .before .before .before .before .before .before .before .before .before .before .before .before .before .before .before .before .before .before .args .other .now) (c .before .before .before .before .before .before .before .before .before .before .before .before .before .before .before .before .before .before .before .args .work .now) _ _ _ _ (refused-outcome (c .before .before .before .before .before .before .before .before .before .before .before .before .before .before .before .before .before .before .before .args .file .now) (c .before .before .before .before .before .before .before .before .before .before .before .before .before .before .before .before .before .before .before .args .matching .now) (c .before .before .before .before .before .before .before .before .before .before .before .before .before .before .before .before .before .before .before .args .other .now) (c .before .before .before .before .before .before .before .before .before .before .before .before .before .before .before .before .before .before .before .args .work .now) (c .before .before .before .before .before .before .before .before .before .before .before .before .before .before .if1 .left) (checks-refuse (c .before .before .before .before .before .before .before .before .before .before .before .before .before .read-case .ensures) (c .before .before .before .before .before .before .before .before .before .before .before .enum-told .given .1) (c .before .before .before .before .before .before .before .before .before .check .ensures) (c .before .before .before .before .before .answer .given .1))) (c .before .before .refuse3 .ensures .0) (cleared-after (c .before .before .before .before .before .before .before .before .before .before .before .before .before .before .before .before .before .before .before .args .work .now) _ _ (c .before .before .before .before .before .before .before .before .before .check .ensures) (c .before .before .refuse3 .ensures .1))
+returns-3 c =
+    let at-refuse3 = c .before .before in
+    let at-answer = at-refuse3 .before .before .before in
+    let at-check = at-answer .before .before .before .before in
+    let at-enum-told = at-check .before .before in
+    let at-read-case = at-enum-told .before .before in
+    let at-if1 = at-read-case .before in
+    let x = at-if1 .before .before .before .before .before .args in
+    refusal (x .file .now) (x .matching .now) (x .other .now) (x .work .now) _ _ _ _
+    (refused-outcome (x .file .now) (x .matching .now) (x .other .now) (x .work .now) (at-if1 .if1 .left)
+    (checks-refuse (at-read-case .read-case .ensures) (at-enum-told .enum-told .given .1) (at-check .check .ensures) (at-answer .answer .given .1)))
+    (at-refuse3 .refuse3 .ensures .0) (cleared-after (x .work .now) _ _ (at-check .check .ensures) (at-refuse3 .refuse3 .ensures .1))
 
 same-length-4 : tie.Need-same-length-4
 same-length-4 c = search needs
@@ -71,7 +116,19 @@ same-length-6 : tie.Need-same-length-6
 same-length-6 c = search needs
 
 returns-4 : tie.Need-returns-4
-returns-4 c = shown-outcome (c .before .before .before .before .before .before .before .before .before .before .before .before .before .before .before .before .before .before .before .before .before .before .before .before .before .before .before .before .before .before .before .args .file .now) (c .before .before .before .before .before .before .before .before .before .before .before .before .before .before .before .before .before .before .before .before .before .before .before .before .before .before .before .before .before .before .before .args .matching .now) (c .before .before .before .before .before .before .before .before .before .before .before .before .before .before .before .before .before .before .before .before .before .before .before .before .before .before .before .before .before .before .before .args .other .now) (c .before .before .before .before .before .before .before .before .before .before .before .before .before .before .before .before .before .before .before .before .before .before .before .before .before .before .before .before .before .before .before .args .work .now) (c .before .before .before .before .before .before .before .before .before .before .before .before .before .before .before .before .before .before .before .before .before .before .before .before .before .before .if1 .left) (c .before .before .before .before .before .before .before .before .before .before .before .before .before .before .before .before .before .before .before .before .before .check .ensures) (checks-pass (c .before .before .before .before .before .before .before .before .before .before .before .before .before .before .before .before .before .before .before .before .before .before .before .before .before .read-case .ensures) (c .before .before .before .before .before .before .before .before .before .before .before .before .before .before .before .before .before .before .before .before .before .before .before .enum-told .given .1) (c .before .before .before .before .before .before .before .before .before .before .before .before .before .before .before .before .before .before .before .before .before .check .ensures) (c .before .before .before .before .before .before .before .before .before .before .before .before .before .before .before .before .before .answer2 .given .1)) (c .before .before .before .before .before .before .before .before .before .before .before .before .before .before .search .ensures) (c .before .before .before .before .before .before .before .before .show .ensures) (c .before .before .clear .ensures)
+returns-4 c =
+    let at-clear = c .before .before in
+    let at-show = at-clear .before .before .before .before .before .before in
+    let at-search = at-show .before .before .before .before .before .before in
+    let at-answer2 = at-search .before .before .before in
+    let at-check = at-answer2 .before .before .before .before in
+    let at-enum-told = at-check .before .before in
+    let at-read-case = at-enum-told .before .before in
+    let at-if1 = at-read-case .before in
+    let x = at-if1 .before .before .before .before .before .args in
+    shown-outcome (x .file .now) (x .matching .now) (x .other .now) (x .work .now) (at-if1 .if1 .left) (at-check .check .ensures)
+    (checks-pass (at-read-case .read-case .ensures) (at-enum-told .enum-told .given .1) (at-check .check .ensures) (at-answer2 .answer2 .given .1))
+    (at-search .search .ensures) (at-show .show .ensures) (at-clear .clear .ensures)
 
 pub judge-spec : {M : Type 1} → statement M
 judge-spec =

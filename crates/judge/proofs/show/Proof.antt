@@ -13,13 +13,19 @@ enum-told : tie.Need-enum-told
 enum-told c = search needs
 
 without-matching-requires : tie.Need-without-matching-requires
-without-matching-requires c κs = (c .before .before .before .before .before .before .pre .0, (at-none (c .before .before .before .before .before .before .pre .1 .0) (c .before .enum-told .given .1), c .before .before .before .before .before .before .pre .1 .1))
+without-matching-requires c κs =
+    let at-enum-told = c .before in
+    let entry = at-enum-told .before .before .before .before .before in
+    (entry .pre .0, (at-none (entry .pre .1 .0) (at-enum-told .enum-told .given .1), entry .pre .1 .1))
 
 enum-known-first : tie.Need-enum-known-first
 enum-known-first c = search needs
 
 with-matching-requires : tie.Need-with-matching-requires
-with-matching-requires c κs = (c .before .before .before .before .before .before .before .before .pre .0, (at-place (c .before .before .before .before .before .before .before .before .pre .1 .0) (c .before .before .before .first .given .1), c .before .before .before .before .before .before .before .before .pre .1 .1))
+with-matching-requires c κs =
+    let at-first = c .before .before .before in
+    let entry = at-first .before .before .before .before .before in
+    (entry .pre .0, (at-place (entry .pre .1 .0) (at-first .first .given .1), entry .pre .1 .1))
 
 same-length : tie.Need-same-length
 same-length c = search needs

@@ -22,19 +22,37 @@ refused-requires-2 : tie.Need-refused-requires-2
 refused-requires-2 c κs = search needs
 
 returns : tie.Need-returns
-returns c = λ matching. rw (c .refused2 .ensures) (show-safe-short (c .before .before .before .before .before .before .before .pre .1 .0) (at-place (c .before .before .before .before .before .before .before .pre .1 .1) (c .before .before .before .second .given .1)) (c .before .if1 .taken))
+returns c =
+    let at-if1 = c .before in
+    let at-second = at-if1 .before .before in
+    let entry = at-second .before .before .before .before in
+    λ matching. rw (c .refused2 .ensures)
+    (show-safe-short (entry .pre .1 .0) (at-place (entry .pre .1 .1) (at-second .second .given .1)) (at-if1 .if1 .taken))
 
 write-run-requires : tie.Need-write-run-requires
-write-run-requires c κs = (c .before .before .before .before .before .before .before .pre .0, (at-place (c .before .before .before .before .before .before .before .pre .1 .1) (c .before .before .before .second .given .1) .met-at, c .before .if1 .left))
+write-run-requires c κs =
+    let at-if1 = c .before in
+    let at-second = at-if1 .before .before in
+    let entry = at-second .before .before .before .before in
+    (entry .pre .0, (at-place (entry .pre .1 .1) (at-second .second .given .1) .met-at, at-if1 .if1 .left))
 
 returns-2 : tie.Need-returns-2
-returns-2 c = λ matching. rw (c .refused .ensures) (show-unexplained (c .before .before .before .before .before .pre .1 .0) (at-none (c .before .before .before .before .before .pre .1 .1) (c .before .enum-told .given .1)))
+returns-2 c =
+    let at-enum-told = c .before in
+    let entry = at-enum-told .before .before .before .before in
+    λ matching. rw (c .refused .ensures) (show-unexplained (entry .pre .1 .0) (at-none (entry .pre .1 .1) (at-enum-told .enum-told .given .1)))
 
 same-length : tie.Need-same-length
 same-length c = search needs
 
 returns-3 : tie.Need-returns-3
-returns-3 c = λ matching. show-safe (c .before .before .before .before .before .before .before .before .before .before .pre .1 .0) (at-place (c .before .before .before .before .before .before .before .before .before .before .pre .1 .1) (c .before .before .before .before .before .before .second .given .1)) (c .before .before .before .before .if1 .left) (c .before .before .write-run .ensures)
+returns-3 c =
+    let at-write-run = c .before .before in
+    let at-if1 = at-write-run .before .before in
+    let at-second = at-if1 .before .before in
+    let entry = at-second .before .before .before .before in
+    λ matching. show-safe (entry .pre .1 .0) (at-place (entry .pre .1 .1) (at-second .second .given .1)) (at-if1 .if1 .left)
+    (at-write-run .write-run .ensures)
 
 pub without-matching-spec : {M : Type 1} → statement M
 without-matching-spec =

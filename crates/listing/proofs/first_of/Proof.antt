@@ -21,19 +21,40 @@ same-length-2 : tie.Need-same-length-2
 same-length-2 c = search needs
 
 returns : tie.Need-returns
-returns c = lists _ _ (shown (from-start-good (c .before .before .before .before .before .before .before .before .before .before .before .before .args .c) (c .before .before .before .before .before .before .before .before .before .before .before .before .args .limit)) (end-shown (c .before .before .before .before .before .before .before .before .before .log-too-long .ensures .ends (c .before .before .before .before .before .before .before .before .if1 .taken) from-start) (c .before .before .before .before .give-and-clear .ensures .1 .is))) (c .before .before .before .before .give-and-clear .ensures .0) refl
+returns c =
+    let at-give-and-clear = c .before .before .before .before in
+    let at-if1 = at-give-and-clear .before .before .before .before in
+    let at-log-too-long = at-if1 .before in
+    let x = at-log-too-long .before .before .before .args in
+    lists _ _
+    (shown (from-start-good (x .c) (x .limit))
+    (end-shown (at-log-too-long .log-too-long .ensures .ends (at-if1 .if1 .taken) from-start) (at-give-and-clear .give-and-clear .ensures .1 .is)))
+    (at-give-and-clear .give-and-clear .ensures .0) refl
 
 fill-requires : tie.Need-fill-requires
-fill-requires c κs = (c .before .before .before .before .before .pre .ready, (c .before .before .before .before .before .pre .low, c .before .before .log-too-long .ensures .fits (c .before .if1 .left)))
+fill-requires c κs =
+    let at-if1 = c .before in
+    let at-log-too-long = at-if1 .before in
+    let entry = at-log-too-long .before .before .before in
+    (entry .pre .ready, (entry .pre .low, at-log-too-long .log-too-long .ensures .fits (at-if1 .if1 .left)))
 
 slice-aggregate-first : tie.Need-slice-aggregate-first
 slice-aggregate-first c = search needs
 
 first-requires : tie.Need-first-requires
-first-requires c κs = seeking (c .before .before .before .before .before .before .before .before .before .before .pre) (c .before .before .before .before .fill .ensures) (c .before .before .before .before .before .before .before .log-too-long .ensures .fits (c .before .before .before .before .before .before .if1 .left)) _ (search needs)
+first-requires c κs =
+    let at-fill = c .before .before .before .before in
+    let at-if1 = at-fill .before .before in
+    let at-log-too-long = at-if1 .before in
+    let entry = at-log-too-long .before .before .before in
+    seeking (entry .pre) (at-fill .fill .ensures) (at-log-too-long .log-too-long .ensures .fits (at-if1 .if1 .left)) _ (search needs)
 
 give-and-clear-requires-2 : tie.Need-give-and-clear-requires-2
-give-and-clear-requires-2 c κs = found-short (c .before .before .before .before .before .before .before .before .before .before .before .before .before .before .before .args .c) (c .before .before .before .before .before .before .before .before .before .before .before .before .before .before .before .args .limit) from-start _ _ (c .before .before .before .before .before .before .before .before .before .before .before .before .before .before .before .args .room .now) _ (c .before .before .before .before .before .before .before .before .before .before .before .before .before .before .before .pre .low) (c .before .before .before .before .first .ensures)
+give-and-clear-requires-2 c κs =
+    let at-first = c .before .before .before .before in
+    let entry = at-first .before .before .before .before .before .before .before .before .before .before .before in
+    let x = entry .args in
+    found-short (x .c) (x .limit) from-start _ _ (x .room .now) _ (entry .pre .low) (at-first .first .ensures)
 
 same-length-3 : tie.Need-same-length-3
 same-length-3 c = search needs
@@ -42,7 +63,15 @@ same-length-4 : tie.Need-same-length-4
 same-length-4 c = search needs
 
 returns-2 : tie.Need-returns-2
-returns-2 c = lists _ _ (shown (from-start-good (c .before .before .before .before .before .before .before .before .before .before .before .before .before .before .before .before .before .before .before .before .args .c) (c .before .before .before .before .before .before .before .before .before .before .before .before .before .before .before .before .before .before .before .before .args .limit)) (found-shown (c .before .before .before .before .before .before .before .before .before .before .before .before .before .before .before .before .before .before .before .before .args .c) (c .before .before .before .before .before .before .before .before .before .before .before .before .before .before .before .before .before .before .before .before .args .limit) from-start _ _ (c .before .before .before .before .before .before .before .before .before .before .before .before .before .before .before .before .before .before .before .before .args .room .now) _ _ _ (c .before .before .before .before .before .before .before .before .before .first .ensures) (c .before .before .before .before .give-and-clear2 .ensures .1))) (c .before .before .before .before .give-and-clear2 .ensures .0) (c .before .before .before .before .before .before .before .before .before .before .before .before .before .before .fill .ensures .long)
+returns-2 c =
+    let at-give-and-clear2 = c .before .before .before .before in
+    let at-first = at-give-and-clear2 .before .before .before .before .before in
+    let at-fill = at-first .before .before .before .before .before in
+    let x = at-fill .before .before .before .before .before .before .args in
+    lists _ _
+    (shown (from-start-good (x .c) (x .limit))
+    (found-shown (x .c) (x .limit) from-start _ _ (x .room .now) _ _ _ (at-first .first .ensures) (at-give-and-clear2 .give-and-clear2 .ensures .1)))
+    (at-give-and-clear2 .give-and-clear2 .ensures .0) (at-fill .fill .ensures .long)
 
 pub first-of-spec : {M : Type 1} → statement M
 first-of-spec =

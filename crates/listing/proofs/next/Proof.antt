@@ -17,7 +17,14 @@ same-length : tie.Need-same-length
 same-length c = search needs
 
 returns : tie.Need-returns
-returns c = refusal (c .before .before .before .before .before .before .before .before .before .before .args .file .now) (c .before .before .before .before .before .before .before .before .before .before .args .limit) (after (c .before .before .before .before .before .before .before .before .before .before .args .given .now)) (c .before .before .before .before .before .before .before .before .before .before .args .room .now) (c .before .before .before .before .before .before .before .before .before .before .args .work .now) _ _ _ _ (barred-outcome (c .before .before .before .before .before .before .before .before .before .before .args .file .now) (c .before .before .before .before .before .before .before .before .before .before .args .limit) (after (c .before .before .before .before .before .before .before .before .before .before .args .given .now)) (c .before .before .before .before .before .before .before .before .before .before .args .room .now) (c .before .before .before .before .before .before .before .before .before .before .args .work .now) (c .before .before .before .before .before .barred .ensures) (c .before .before .before .before .if1 .taken)) (c .before .before .refuse .ensures .0) (c .before .before .refuse .ensures .1)
+returns c =
+    let at-refuse = c .before .before in
+    let at-if1 = at-refuse .before .before in
+    let at-barred = at-if1 .before in
+    let x = at-barred .before .before .before .before .before .args in
+    refusal (x .file .now) (x .limit) (after (x .given .now)) (x .room .now) (x .work .now) _ _ _ _
+    (barred-outcome (x .file .now) (x .limit) (after (x .given .now)) (x .room .now) (x .work .now) (at-barred .barred .ensures) (at-if1 .if1 .taken))
+    (at-refuse .refuse .ensures .0) (at-refuse .refuse .ensures .1)
 
 read-case-requires : tie.Need-read-case-requires
 read-case-requires c κs = search needs
@@ -32,13 +39,28 @@ same-length-2 : tie.Need-same-length-2
 same-length-2 c = search needs
 
 returns-2 : tie.Need-returns-2
-returns-2 c = refusal (c .before .before .before .before .before .before .before .before .before .before .before .before .before .before .args .file .now) (c .before .before .before .before .before .before .before .before .before .before .before .before .before .before .args .limit) (after (c .before .before .before .before .before .before .before .before .before .before .before .before .before .before .args .given .now)) (c .before .before .before .before .before .before .before .before .before .before .before .before .before .before .args .room .now) (c .before .before .before .before .before .before .before .before .before .before .before .before .before .before .args .work .now) _ _ _ _ (refused-outcome (c .before .before .before .before .before .before .before .before .before .before .before .before .before .before .args .file .now) (c .before .before .before .before .before .before .before .before .before .before .before .before .before .before .args .limit) (after (c .before .before .before .before .before .before .before .before .before .before .before .before .before .before .args .given .now)) (c .before .before .before .before .before .before .before .before .before .before .before .before .before .before .args .room .now) (c .before .before .before .before .before .before .before .before .before .before .before .before .before .before .args .work .now) (c .before .before .before .before .before .before .before .before .before .barred .ensures) (c .before .before .before .before .before .before .before .before .if1 .left) (reader-refuses (c .before .before .before .before .before .before .before .read-case .ensures) (c .before .before .before .before .before .outcome .given .1))) (c .before .before .refuse2 .ensures .0) (c .before .before .refuse2 .ensures .1)
+returns-2 c =
+    let at-refuse2 = c .before .before in
+    let at-outcome = at-refuse2 .before .before .before in
+    let at-read-case = at-outcome .before .before in
+    let at-if1 = at-read-case .before in
+    let at-barred = at-if1 .before in
+    let x = at-barred .before .before .before .before .before .args in
+    refusal (x .file .now) (x .limit) (after (x .given .now)) (x .room .now) (x .work .now) _ _ _ _
+    (refused-outcome (x .file .now) (x .limit) (after (x .given .now)) (x .room .now) (x .work .now) (at-barred .barred .ensures) (at-if1 .if1 .left)
+    (reader-refuses (at-read-case .read-case .ensures) (at-outcome .outcome .given .1))) (at-refuse2 .refuse2 .ensures .0)
+    (at-refuse2 .refuse2 .ensures .1)
 
 enum-told : tie.Need-enum-told
 enum-told c = search needs
 
 check-requires : tie.Need-check-requires
-check-requires c κs = (case-well (c .before .before .before .read-case .ensures) (c .before .enum-told .given .1), long-room (c .before .before .before .before .before .barred .ensures) (c .before .before .before .before .if1 .left))
+check-requires c κs =
+    let at-enum-told = c .before in
+    let at-read-case = at-enum-told .before .before in
+    let at-if1 = at-read-case .before in
+    let at-barred = at-if1 .before in
+    (case-well (at-read-case .read-case .ensures) (at-enum-told .enum-told .given .1), long-room (at-barred .barred .ensures) (at-if1 .if1 .left))
 
 enum-known-answer : tie.Need-enum-known-answer
 enum-known-answer c = search needs
@@ -50,13 +72,33 @@ enum-known-answer-2 : tie.Need-enum-known-answer-2
 enum-known-answer-2 c = search needs
 
 next-of-requires : tie.Need-next-of-requires
-next-of-requires c κs = ready-to-list (c .before .before .before .before .before .before .before .before .before .before .before .before .before .barred .ensures) (c .before .before .before .before .before .before .before .before .before .before .before .before .if1 .left) (c .before .before .before .before .before .before .before .check .ensures) (checks-pass (c .before .before .before .before .before .before .before .before .before .before .before .read-case .ensures) (c .before .before .before .before .before .before .before .before .before .enum-told .given .1) (c .before .before .before .before .before .before .before .check .ensures) (c .before .before .before .answer2 .given .1) .1)
+next-of-requires c κs =
+    let at-answer2 = c .before .before .before in
+    let at-check = at-answer2 .before .before .before .before in
+    let at-enum-told = at-check .before .before in
+    let at-read-case = at-enum-told .before .before in
+    let at-if1 = at-read-case .before in
+    let at-barred = at-if1 .before in
+    ready-to-list (at-barred .barred .ensures) (at-if1 .if1 .left) (at-check .check .ensures)
+    (checks-pass (at-read-case .read-case .ensures) (at-enum-told .enum-told .given .1) (at-check .check .ensures) (at-answer2 .answer2 .given .1) .1)
 
 same-length-3 : tie.Need-same-length-3
 same-length-3 c = search needs
 
 returns-3 : tie.Need-returns-3
-returns-3 c = refusal (c .before .before .before .before .before .before .before .before .before .before .before .before .before .before .before .before .before .before .before .before .args .file .now) (c .before .before .before .before .before .before .before .before .before .before .before .before .before .before .before .before .before .before .before .before .args .limit) (after (c .before .before .before .before .before .before .before .before .before .before .before .before .before .before .before .before .before .before .before .before .args .given .now)) (c .before .before .before .before .before .before .before .before .before .before .before .before .before .before .before .before .before .before .before .before .args .room .now) (c .before .before .before .before .before .before .before .before .before .before .before .before .before .before .before .before .before .before .before .before .args .work .now) _ _ _ _ (refused-outcome (c .before .before .before .before .before .before .before .before .before .before .before .before .before .before .before .before .before .before .before .before .args .file .now) (c .before .before .before .before .before .before .before .before .before .before .before .before .before .before .before .before .before .before .before .before .args .limit) (after (c .before .before .before .before .before .before .before .before .before .before .before .before .before .before .before .before .before .before .before .before .args .given .now)) (c .before .before .before .before .before .before .before .before .before .before .before .before .before .before .before .before .before .before .before .before .args .room .now) (c .before .before .before .before .before .before .before .before .before .before .before .before .before .before .before .before .before .before .before .before .args .work .now) (c .before .before .before .before .before .before .before .before .before .before .before .before .before .before .before .barred .ensures) (c .before .before .before .before .before .before .before .before .before .before .before .before .before .before .if1 .left) (checks-refuse (c .before .before .before .before .before .before .before .before .before .before .before .before .before .read-case .ensures) (c .before .before .before .before .before .before .before .before .before .before .before .enum-told .given .1) (c .before .before .before .before .before .before .before .before .before .check .ensures) (c .before .before .before .before .before .answer .given .1))) (c .before .before .refuse3 .ensures .0) (cleared-after (c .before .before .before .before .before .before .before .before .before .before .before .before .before .before .before .before .before .before .before .before .args .work .now) _ _ (c .before .before .before .before .before .before .before .before .before .check .ensures) (c .before .before .refuse3 .ensures .1))
+returns-3 c =
+    let at-refuse3 = c .before .before in
+    let at-answer = at-refuse3 .before .before .before in
+    let at-check = at-answer .before .before .before .before in
+    let at-enum-told = at-check .before .before in
+    let at-read-case = at-enum-told .before .before in
+    let at-if1 = at-read-case .before in
+    let at-barred = at-if1 .before in
+    let x = at-barred .before .before .before .before .before .args in
+    refusal (x .file .now) (x .limit) (after (x .given .now)) (x .room .now) (x .work .now) _ _ _ _
+    (refused-outcome (x .file .now) (x .limit) (after (x .given .now)) (x .room .now) (x .work .now) (at-barred .barred .ensures) (at-if1 .if1 .left)
+    (checks-refuse (at-read-case .read-case .ensures) (at-enum-told .enum-told .given .1) (at-check .check .ensures) (at-answer .answer .given .1)))
+    (at-refuse3 .refuse3 .ensures .0) (cleared-after (x .work .now) _ _ (at-check .check .ensures) (at-refuse3 .refuse3 .ensures .1))
 
 same-length-4 : tie.Need-same-length-4
 same-length-4 c = search needs
@@ -65,7 +107,19 @@ same-length-5 : tie.Need-same-length-5
 same-length-5 c = search needs
 
 returns-4 : tie.Need-returns-4
-returns-4 c = listed-outcome (c .before .before .before .before .before .before .before .before .before .before .before .before .before .before .before .before .before .before .before .before .before .before .before .args .file .now) (c .before .before .before .before .before .before .before .before .before .before .before .before .before .before .before .before .before .before .before .before .before .before .before .args .limit) (after (c .before .before .before .before .before .before .before .before .before .before .before .before .before .before .before .before .before .before .before .before .before .before .before .args .given .now)) (c .before .before .before .before .before .before .before .before .before .before .before .before .before .before .before .before .before .before .before .before .before .before .before .args .room .now) (c .before .before .before .before .before .before .before .before .before .before .before .before .before .before .before .before .before .before .before .before .before .before .before .args .work .now) (c .before .before .before .before .before .before .before .before .before .before .before .before .before .before .before .before .before .before .barred .ensures) (c .before .before .before .before .before .before .before .before .before .before .before .before .before .before .before .before .before .if1 .left) (c .before .before .before .before .before .before .before .before .before .before .before .before .check .ensures) (checks-pass (c .before .before .before .before .before .before .before .before .before .before .before .before .before .before .before .before .read-case .ensures) (c .before .before .before .before .before .before .before .before .before .before .before .before .before .before .enum-told .given .1) (c .before .before .before .before .before .before .before .before .before .before .before .before .check .ensures) (c .before .before .before .before .before .before .before .before .answer2 .given .1)) (c .before .before .before .before .next-of .ensures)
+returns-4 c =
+    let at-next-of = c .before .before .before .before in
+    let at-answer2 = at-next-of .before .before .before .before in
+    let at-check = at-answer2 .before .before .before .before in
+    let at-enum-told = at-check .before .before in
+    let at-read-case = at-enum-told .before .before in
+    let at-if1 = at-read-case .before in
+    let at-barred = at-if1 .before in
+    let x = at-barred .before .before .before .before .before .args in
+    listed-outcome (x .file .now) (x .limit) (after (x .given .now)) (x .room .now) (x .work .now) (at-barred .barred .ensures) (at-if1 .if1 .left)
+    (at-check .check .ensures)
+    (checks-pass (at-read-case .read-case .ensures) (at-enum-told .enum-told .given .1) (at-check .check .ensures) (at-answer2 .answer2 .given .1))
+    (at-next-of .next-of .ensures)
 
 pub next-spec : {M : Type 1} → statement M
 next-spec =

@@ -21,10 +21,20 @@ abbrev μ-loop : tie.MeasureT-loop
 
 -- a record has been found right, and what it says is to be added
 right : (c : tie.After-known-told Inv-loop μ-loop)
-    → Right (c .before .before .before .before .before .before .before .before .before .before .before .before .args .file .now) (c .before .before .before .before .before .before .before .before .before .loop .case) (c .before .before .before .before .before .before .before .before .before .loop .at) (c .before .before .before .before .before .before .before .mark-at .result) (c .before .before .before .before .before .before .number-of .result) (c .before .end .given .0 .0)
+    → let at-number-of = c .before .before .before .before .before .before in
+    let at-mark-at = at-number-of .before in
+    let at-loop = at-mark-at .before .before in
+    Right (at-loop .before .before .before .args .file .now) (at-loop .loop .case) (at-loop .loop .at) (at-mark-at .mark-at .result)
+    (at-number-of .number-of .result) (c .before .end .given .0 .0)
 right c =
-    let number = c .before .before .before .before .before .before .number-of .ensures in
-    right-record (c .before .before .before .before .before .before .before .before .before .loop .inv) (c .before .before .before .before .before .before .before .mark-at .ensures) (number .0) (c .before .before .before .before .before .may-follow .ensures) (c .before .before .before .read-record .ensures) (not-false _ (c .before .before .before .before .if1 .left)) (c .before .end .given .1) (number .1)
+    let at-read-record = c .before .before .before in
+    let at-if1 = at-read-record .before in
+    let at-may-follow = at-if1 .before in
+    let at-number-of = at-may-follow .before in
+    let at-mark-at = at-number-of .before in
+    let number = at-number-of .number-of .ensures in
+    right-record (at-mark-at .before .before .loop .inv) (at-mark-at .mark-at .ensures) (number .0) (at-may-follow .may-follow .ensures)
+    (at-read-record .read-record .ensures) (not-false _ (at-if1 .if1 .left)) (c .before .end .given .1) (number .1)
 
 zero-case-requires : tie.Need-zero-case-requires Inv-loop μ-loop
 zero-case-requires c κs = search needs
@@ -45,10 +55,25 @@ refused-requires : tie.Need-refused-requires Inv-loop μ-loop
 refused-requires c κs = search needs
 
 returns : tie.Need-returns Inv-loop μ-loop
-returns c = refuses (c .refused .ensures) (wrong-mark (c .before .before .before .before .before .before .loop .inv) (c .before .before .before .before .mark-at .ensures) (c .before .before .before .number-of .ensures .0) (c .before .before .may-follow .ensures) (not-true _ (c .before .if1 .taken)) (c .before .before .before .before .before .loop-test .taken))
+returns c =
+    let at-if1 = c .before in
+    let at-may-follow = at-if1 .before in
+    let at-number-of = at-may-follow .before in
+    let at-mark-at = at-number-of .before in
+    let at-loop-test = at-mark-at .before in
+    let at-loop = at-loop-test .before in
+    refuses (c .refused .ensures)
+    (wrong-mark (at-loop .loop .inv) (at-mark-at .mark-at .ensures) (at-number-of .number-of .ensures .0) (at-may-follow .may-follow .ensures)
+    (not-true _ (at-if1 .if1 .taken)) (at-loop-test .loop-test .taken))
 
 read-record-requires : tie.Need-read-record-requires Inv-loop μ-loop
-read-record-requires c κs = long (c .before .before .before .before .before .loop .inv) (c .before .before .before .mark-at .ensures) (c .before .before .number-of .ensures .0) (c .before .may-follow .ensures) (not-false _ (c .if1 .left))
+read-record-requires c κs =
+    let at-may-follow = c .before in
+    let at-number-of = at-may-follow .before in
+    let at-mark-at = at-number-of .before in
+    let at-loop = at-mark-at .before .before in
+    long (at-loop .loop .inv) (at-mark-at .mark-at .ensures) (at-number-of .number-of .ensures .0) (at-may-follow .may-follow .ensures)
+    (not-false _ (c .if1 .left))
 
 enum-known-end : tie.Need-enum-known-end Inv-loop μ-loop
 enum-known-end c = search needs
@@ -60,7 +85,17 @@ refused-requires-2 : tie.Need-refused-requires-2 Inv-loop μ-loop
 refused-requires-2 c κs = search needs
 
 returns-2 : tie.Need-returns-2 Inv-loop μ-loop
-returns-2 c = refuses (c .refused2 .ensures) (wrong-fields (c .before .before .before .before .before .before .before .before .before .before .loop .inv) (c .before .before .before .before .before .before .before .before .mark-at .ensures) (c .before .before .before .before .before .before .before .number-of .ensures .0) (c .before .before .before .before .before .before .may-follow .ensures) (c .before .before .before .before .read-record .ensures) (c .before .before .place .given .1) (c .before .before .before .before .before .before .before .before .before .loop-test .taken))
+returns-2 c =
+    let at-place = c .before .before in
+    let at-read-record = at-place .before .before in
+    let at-may-follow = at-read-record .before .before in
+    let at-number-of = at-may-follow .before in
+    let at-mark-at = at-number-of .before in
+    let at-loop-test = at-mark-at .before in
+    let at-loop = at-loop-test .before in
+    refuses (c .refused2 .ensures)
+    (wrong-fields (at-loop .loop .inv) (at-mark-at .mark-at .ensures) (at-number-of .number-of .ensures .0) (at-may-follow .may-follow .ensures)
+    (at-read-record .read-record .ensures) (at-place .place .given .1) (at-loop-test .loop-test .taken))
 
 enum-told : tie.Need-enum-told Inv-loop μ-loop
 enum-told c = search needs
@@ -72,7 +107,9 @@ enum-told-2 : tie.Need-enum-told-2 Inv-loop μ-loop
 enum-told-2 c = search needs
 
 add-tr-requires : tie.Need-add-tr-requires Inv-loop μ-loop
-add-tr-requires c κs = arcs-wider (c .before .before .before .before .before .before .before .before .before .before .before .loop .inv .rows .system) (rw (c .enum-told2 .given .1) at (right (c .before .before) .fields))
+add-tr-requires c κs =
+    let at-loop = c .before .before .before .before .before .before .before .before .before .before .before in
+    arcs-wider (at-loop .loop .inv .rows .system) (rw (c .enum-told2 .given .1) at (right (c .before .before) .fields))
 
 enum-told-3 : tie.Need-enum-told-3 Inv-loop μ-loop
 enum-told-3 c = search needs
@@ -98,7 +135,9 @@ enum-told-6 : tie.Need-enum-told-6 Inv-loop μ-loop
 enum-told-6 c = search needs
 
 add-px-requires : tie.Need-add-px-requires Inv-loop μ-loop
-add-px-requires c κs = arcs-wider (c .before .before .before .before .before .before .before .before .before .before .before .loop .inv .rows .pattern) (rw (c .enum-told6 .given .1) at (right (c .before .before) .fields))
+add-px-requires c κs =
+    let at-loop = c .before .before .before .before .before .before .before .before .before .before .before in
+    arcs-wider (at-loop .loop .inv .rows .pattern) (rw (c .enum-told6 .given .1) at (right (c .before .before) .fields))
 
 enum-told-7 : tie.Need-enum-told-7 Inv-loop μ-loop
 enum-told-7 c = search needs

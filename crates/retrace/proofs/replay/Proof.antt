@@ -31,10 +31,15 @@ both-ended-requires c κs = search needs
 
 returns : tie.Need-returns
 returns c =
-    let x = c .before .before .before .before .before .before .before .before .before .before .before .before .before .before .before .before .args in
-    let r = c .before .before .before .before .before .before .before .before .before .before .before .before .before .before .fire .result in
-    answers (c .before .before .before .before .before .before .before .before .before .before .before .before .before .before .before .before .pre) (x .run .now) (x .budget) r (c .before .before .before .before .before .before .before .before .before .before .before .before .before .before .fire .ensures)
-    (c .before .before .is-final .ensures ∙ ap (λ (n : ℕ). final (boundsCase (x .c .bounds .least) (x .c .bounds .most) n) (r .marking .pattern .tokens)) (c .before .before .before .wide .ensures) ∙ sym (final-parts (x .c) (r .marking .pattern .tokens)))
+    let at-is-final = c .before .before in
+    let at-fire = at-is-final .before .before .before .before .before .before .before .before .before .before .before .before in
+    let entry = at-fire .before .before in
+    let x = entry .args in
+    let r = at-fire .fire .result in
+    answers (entry .pre) (x .run .now) (x .budget) r (at-fire .fire .ensures)
+    (at-is-final .is-final .ensures
+    ∙ ap (λ (n : ℕ). final (boundsCase (x .c .bounds .least) (x .c .bounds .most) n) (r .marking .pattern .tokens)) (at-is-final .before .wide .ensures)
+    ∙ sym (final-parts (x .c) (r .marking .pattern .tokens)))
     (c .both-ended .ensures ∙ ap (λ (n : ℕ). eqb (r .fired) (length (x .run .now)) && eqb (r .at) n) (c .before .wide2 .ensures))
 
 pub replay-spec : {M : Type 1} → statement M

@@ -35,10 +35,22 @@ returns : tie.Need-returns
 returns c = layout-refuses (c .before .before .before .before .before .read-case .ensures) (c .before .before .outcome .given .1) (c .refused .ensures)
 
 returns-2 : tie.Need-returns-2
-returns-2 c = nets-refuse (c .before .before .before .before .before .before .before .before .read-case .ensures) (c .before .before .before .before .before .enum-told .given .1) (c .before .before .before .before .check-pattern .ensures) (c .before .before .checked .given .1) (c .refused2 .ensures)
+returns-2 c =
+    let at-checked = c .before .before in
+    let at-check-pattern = at-checked .before .before in
+    let at-enum-told = at-check-pattern .before in
+    let at-read-case = at-enum-told .before .before .before in
+    nets-refuse (at-read-case .read-case .ensures) (at-enum-told .enum-told .given .1) (at-check-pattern .check-pattern .ensures)
+    (at-checked .checked .given .1) (c .refused2 .ensures)
 
 returns-3 : tie.Need-returns-3
-returns-3 c = nets-pass (c .before .before .before .before .before .before .before .read-case .ensures) (c .before .before .before .before .enum-told .given .1) (c .before .before .before .check-pattern .ensures) (c .before .enum-told2 .given .1) (c .replay .ensures)
+returns-3 c =
+    let at-enum-told2 = c .before in
+    let at-check-pattern = at-enum-told2 .before .before in
+    let at-enum-told = at-check-pattern .before in
+    let at-read-case = at-enum-told .before .before .before in
+    nets-pass (at-read-case .read-case .ensures) (at-enum-told .enum-told .given .1) (at-check-pattern .check-pattern .ensures)
+    (at-enum-told2 .enum-told2 .given .1) (c .replay .ensures)
 
 pub retrace-spec : {M : Type 1} → statement M
 retrace-spec =

@@ -31,7 +31,13 @@ loop-less : tie.Need-loop-less Inv-loop μ-loop
 loop-less c = search needs
 
 loop-again : tie.Need-loop-again Inv-loop μ-loop
-loop-again c = copied-more (c .before .before .before .args .run .now) (c .before .before .before .args .m) (c .before .before .before .args .room .now) _ _ _ (c .before .before .loop .inv) (c .before .loop-test .taken) (c .before .before .before .pre .0) (c .before .before .before .pre .1) refl (search needs)
+loop-again c =
+    let at-loop-test = c .before in
+    let at-loop = at-loop-test .before in
+    let entry = at-loop .before in
+    let x = entry .args in
+    copied-more (x .run .now) (x .m) (x .room .now) _ _ _ (at-loop .loop .inv) (at-loop-test .loop-test .taken) (entry .pre .0) (entry .pre .1) refl
+    (search needs)
 
 same-length : tie.Need-same-length Inv-loop μ-loop
 same-length c = search needs

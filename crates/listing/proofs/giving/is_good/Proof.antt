@@ -25,7 +25,10 @@ shared-slice-read-if2 : tie.Need-shared-slice-read-if2 Inv-loop μ-loop
 shared-slice-read-if2 c = search needs
 
 returns-2 : tie.Need-returns-2 Inv-loop μ-loop
-returns-2 c = no-transition (c .before .before .before .before .before .args .given .now) (c .before .before .before .before .before .args .limit) (c .before .before .before .before .before .args .transitions) _ (c .before .before .loop-test .taken) (c .if2 .taken)
+returns-2 c =
+    let at-loop-test = c .before .before in
+    let x = at-loop-test .before .before .before .args in
+    no-transition (x .given .now) (x .limit) (x .transitions) _ (at-loop-test .loop-test .taken) (c .if2 .taken)
 
 add-i : tie.Need-add-i Inv-loop μ-loop
 add-i c = search needs
@@ -34,10 +37,16 @@ loop-less : tie.Need-loop-less Inv-loop μ-loop
 loop-less c = search needs
 
 loop-again : tie.Need-loop-again Inv-loop μ-loop
-loop-again c = looked-more (c .before .before .before .before .before .args .given .now) (c .before .before .before .before .before .args .limit) (c .before .before .before .before .before .args .transitions) _ (c .before .before .before .loop .inv) (c .if2 .left)
+loop-again c =
+    let at-loop = c .before .before .before in
+    let x = at-loop .before .before .args in
+    looked-more (x .given .now) (x .limit) (x .transitions) _ (at-loop .loop .inv) (c .if2 .left)
 
 returns-3 : tie.Need-returns-3 Inv-loop μ-loop
-returns-3 c = all-looked (c .before .before .before .args .given .now) (c .before .before .before .args .limit) (c .before .before .before .args .transitions) _ (c .before .loop .inv) (c .loop-test .left)
+returns-3 c =
+    let at-loop = c .before in
+    let x = at-loop .before .before .args in
+    all-looked (x .given .now) (x .limit) (x .transitions) _ (at-loop .loop .inv) (c .loop-test .left)
 
 pub is-good-spec : {M : Type 1} → statement M
 is-good-spec =
