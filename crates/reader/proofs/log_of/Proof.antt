@@ -2,7 +2,8 @@
 use borrow.Author.Needs.{needs}
 use native.Mathlib.Omega.{arith}
 use Rattle.reader.proofs.Given.{given-whole, given-refused}
-use Rattle.reader.proofs.LogPlace.{log-fits, cut-shown, cut-empty}
+use Rattle.rack.proofs.LogPlace.{log-fits}
+use Rattle.reader.proofs.LogCut.{cut-shown, cut-empty}
 use Rattle.reader.proofs.log_of.Statement.{statement}
 use Rattle.reader.proofs.log_of.Tie as tie
 

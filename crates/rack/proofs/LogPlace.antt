@@ -2,24 +2,23 @@
 -- Assumes nothing.
 use mathlib.Core.Path.{_≡_, sym, ap, _∙_, subst}
 use mathlib.Core.Bool.{Bool, true}
-use mathlib.Core.List.{List, []}
+use mathlib.Core.List.{List}
 use Prim.Native.Nat.{ℕ, _+_, _-_, _≤_, _<_}
 use native.Mathlib.Omega.{arith}
-use native.Mathlib.Nat.{add-sub-cancel-left}
-use lib.ListN.{length, take, drop}
+use lib.ListN.{length, take}
 use lib.Dec.{eqb}
 use borrow.Author.Tests.{eqb-true}
 use Rattle.walks.specs.Below.{implies, allBelow}
 use Rattle.walks.proofs.Tests.{below-at, given, of-true, is-true}
 use Rattle.rack.specs.Bytes.{byte, part, listAt}
 use Rattle.rack.specs.Marks.{markAt, numberOf, follows, mayFollow}
 use Rattle.rack.specs.Records.{lgEnd, lgSays}
-use Rattle.rack.specs.Layout.{FieldsAre, endAt, added, zeroCase, whole, Reads, done, next, ReadsAs, BreaksAt}
-use Rattle.rack.specs.CaseFileOutcome.{logOffset, logStretch, Address, LogIs, shown, refused}
+use Rattle.rack.specs.Layout.{FieldsAre, endAt, added, zeroCase, whole, Reads, done, next, ReadsAs}
+use Rattle.rack.specs.CaseFileOutcome.{logOffset, logStretch}
 use Rattle.rack.specs.declared.Case.{Case}
 use Rattle.rack.specs.declared.Mark.{Mark}
 use Rattle.rack.specs.declared.Mark.the-variants.{Nt, Tr, Pr, Ob, Pt, Px, Qf, Lg, En, Absent}
 use Rattle.rack.proofs.WellFormedLists.{length-part, filled-back}
 
 -- EN comes after LG alone
 lg-first : ℕ → Bool
@@ -78,22 +77,9 @@ log-fits r = let s = stands-read r in omega (arith, s .0 .fits, s .1)
 pub log-labels : {f : List ℕ} {c : Case} → ReadsAs f c → logStretch f c ≡ take (c .log .count) (c .log .labels)
 log-labels {f} {c} r =
     let s = stands-read r in
-    let d : length f - (c .log .count + 2) ≡ length f - 2 - c .log .count = omega arith in
+    let d : logOffset f c ≡ length f - 2 - c .log .count = omega arith in
     ap (λ (x : ℕ). part f x (c .log .count)) d ∙ s .0 .are
 
--- the file cut at these two offsets is the log's stretch, and stands where it does
-pub cut-shown : {f : List ℕ} {c : Case} (lent : Address) (n : ℕ) → n ≡ c .log .count → ReadsAs f c
-    → LogIs f lent (take (length f - (n + 2) + n - (length f - (n + 2))) (drop (length f - (n + 2)) f)) (lent .0, length f - (n + 2) + lent .1)
-cut-shown {f} {c} lent n e r =
-    let from = length f - (n + 2) in
-    let bytes = ap (λ (k : ℕ). take k (drop from f)) (add-sub-cancel-left from n) ∙ ap (λ (k : ℕ). part f (length f - (k + 2)) k) e in
-    let offset : from + lent .1 ≡ lent .1 + logOffset f c = omega (arith, e) in
-    subst (λ (l : List ℕ). LogIs f lent l (lent .0, from + lent .1)) (sym bytes)
-    (subst (λ (o : ℕ). LogIs f lent (logStretch f c) (lent .0, o)) (sym offset) (shown r))
-
--- the file cut before its first byte is the empty stretch at its front
-pub cut-empty : {f : List ℕ} {p : ℕ} (lent : Address) (n : ℕ) → n ≡ 0 → BreaksAt f p → LogIs f lent (take (n - n) (drop n f)) (lent .0, n + lent .1)
-cut-empty {f} lent n e b =
-    let front : 0 + lent .1 ≡ lent .1 = omega arith in
-    subst (λ (k : ℕ). LogIs f lent (take (k - k) (drop k f)) (lent .0, k + lent .1)) (sym e)
-    (subst (λ (o : ℕ). LogIs f lent [] (lent .0, o)) (sym front) (refused b))
+-- as many bytes as the log has labels
+pub log-long : {f : List ℕ} {c : Case} → ReadsAs f c → length (logStretch f c) ≡ c .log .count
+log-long {f} {c} r = length-part f (logOffset f c) (c .log .count) (omega (arith, log-fits r))
