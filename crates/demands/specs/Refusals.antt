@@ -2,12 +2,13 @@
 -- Assumes nothing.
 use Prim.Native.Nat.{ℕ}
 use mathlib.Core.Path.{_≡_}
-use mathlib.Core.List.{List}
+use mathlib.Core.List.{List, []}
+use lib.ListN.{take}
 use Rattle.rack.specs.Listing.{Asked}
-use Rattle.rack.specs.Layout.{zeroCase}
+use Rattle.rack.specs.Layout.{zeroCase, ReadsAs}
 use Rattle.rack.specs.Refusal.{Refuses, readerOrder, verdictOrder, listingOrder, writerOrder, replayOrder}
 use Rattle.rack.specs.Outcome.{ofFile, NoneShort, zeroed}
-use Rattle.rack.specs.CaseFileOutcome.{ofCase, FileShort, FileEnough}
+use Rattle.rack.specs.CaseFileOutcome.{Address, further, logOffset, ofCase, FileShort, FileEnough}
 use Rattle.rack.specs.VerdictOutcome.{ofVerdict, RunShort, RunsFit}
 use Rattle.rack.specs.ListingOutcome.{ofListing, NextShort, NextFits}
 use Rattle.rack.specs.ReplayOutcome.{replayRefused}
@@ -33,6 +34,18 @@ pub record Exactly (A B : Type 0) : Type 0 where
 pub record ReaderTaken (f : List ℕ) (x : Reading) : Type 0 where
   pub refusal : (n m : ℕ) → Exactly (x .outcome ≡ Reader.Refused n m) (Refuses (ofFile f) NoneShort (Unit {0}) readerOrder n m)
   pub nothing-read : (n m : ℕ) → x .outcome ≡ Reader.Refused n m → x .case ≡ zeroCase
+
+-- "it is empty for a file refused by 2", and for one whose log has no label
+pub data ShowsNothing (f : List ℕ) : Type 0 where
+  refused : {p : ℕ} → Refuses (ofFile f) NoneShort (Unit {0}) readerOrder 2 p → ShowsNothing f
+  no-label : {c : Case} → ReadsAs f c → c .log .count ≡ 0 → ShowsNothing f
+
+-- the log call, of a file that is lent at an address: l is shown, and stands at a. It refuses nothing; a refused file shows the empty stretch at its front
+pub record LogTaken (f : List ℕ) (lent : Address) (l : List ℕ) (a : Address) : Type 0 where
+  pub nothing : Exactly (l ≡ []) (ShowsNothing f)
+  pub front : (n m : ℕ) → Refuses (ofFile f) NoneShort (Unit {0}) readerOrder n m → (l ≡ []) × (a ≡ lent)
+  pub labels : (c : Case) → ReadsAs f c → l ≡ take (c .log .count) (c .log .labels)
+  pub in-place : (c : Case) → ReadsAs f c → a ≡ further lent (logOffset f c)
 
 pub record WriterTaken (c : Case) (room : List ℕ) (x : Written) (a : List ℕ) : Type 0 where
   pub refusal : (n m : ℕ) → Exactly (x ≡ Writer.Refused n m) (Refuses (ofCase c) (FileShort c room) (FileEnough c room) writerOrder n m)
