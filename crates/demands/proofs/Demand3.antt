@@ -58,8 +58,8 @@ low-more a b h (t ∷ r) l = (omega (arith, l .0), low-more a b h r (l .1))
 pub run-low : {f : List ℕ} {c : Case} (r : List ℕ) → ReadsAs f c → Explains c r → Low 48 r
 run-low {f} {c} r reads x = low-more (c .arcs .count) 48 (well-formed reads .arcs .names .few) r (explains-low c r x)
 
-run-bytes : {f : List ℕ} {c : Case} (r : List ℕ) → ReadsAs f c → Explains c r → Low 256 r
-run-bytes r reads x = low-more 48 256 (omega arith) r (run-low r reads x)
+run-bytes : {f : List ℕ} {c : Case} (r : List ℕ) → ReadsAs f c → Explains c r → InBytes (after r)
+run-bytes r reads x = low-more 48 _ (omega arith) r (run-low r reads x)
 
 -- ---- one question
 
