@@ -1,5 +1,5 @@
 -- What a file cut at two offsets shows: the log's stretch, at its address. Assumes nothing.
-use mathlib.Core.Path.{_≡_, sym, ap, _∙_, subst}
+use mathlib.Core.Path.{_≡_, sym, ap, ap₂, _∙_, subst}
 use mathlib.Core.List.{List, []}
 use Prim.Native.Nat.{ℕ, _+_, _-_}
 use native.Mathlib.Omega.{arith}
@@ -10,13 +10,12 @@ use Rattle.rack.specs.Layout.{ReadsAs, BreaksAt}
 use Rattle.rack.specs.CaseFileOutcome.{logOffset, logStretch, Address, LogIs, shown, refused}
 use Rattle.rack.specs.declared.Case.{Case}
 
--- the file cut at these two offsets is the log's stretch, and stands where it does
-pub cut-shown : {f : List ℕ} {c : Case} (lent : Address) (n : ℕ) → n ≡ c .log .count → ReadsAs f c
-    → LogIs f lent (take (length f - (n + 2) + n - (length f - (n + 2))) (drop (length f - (n + 2)) f)) (lent .0, length f - (n + 2) + lent .1)
-cut-shown {f} {c} lent n e r =
-    let from = length f - (n + 2) in
-    let bytes = ap (λ (k : ℕ). take k (drop from f)) (add-sub-cancel-left from n) ∙ ap (λ (k : ℕ). part f (length f - (k + 2)) k) e in
-    let offset : from + lent .1 ≡ lent .1 + logOffset f c = omega (arith, e) in
+-- the file cut where its log stands shows the log's stretch, at its address
+pub cut-shown : {f : List ℕ} {c : Case} (lent : Address) (from n : ℕ) → from ≡ logOffset f c → n ≡ c .log .count → ReadsAs f c
+    → LogIs f lent (take (from + n - from) (drop from f)) (lent .0, from + lent .1)
+cut-shown {f} {c} lent from n d e r =
+    let bytes = ap (λ (k : ℕ). take k (drop from f)) (add-sub-cancel-left from n) ∙ ap₂ (part f) d e in
+    let offset : from + lent .1 ≡ lent .1 + logOffset f c = omega (arith, d) in
     subst (λ (l : List ℕ). LogIs f lent l (lent .0, from + lent .1)) (sym bytes)
     (subst (λ (o : ℕ). LogIs f lent (logStretch f c) (lent .0, o)) (sym offset) (shown r))
 

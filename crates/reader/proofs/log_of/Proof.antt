@@ -54,7 +54,8 @@ returns : tie.Need-returns
 returns c =
     let file = c .before .before .before .before .before .before .args .file in
     let n = c .before .wide in
-    cut-shown (file .ptr) (n .result) (n .ensures .0) (given-whole (c .before .before .before .before .read-case .ensures) (c .before .before .enum-told .given .1))
+    cut-shown (file .ptr) _ (n .result) (omega (arith, n .ensures .0)) (n .ensures .0)
+    (given-whole (c .before .before .before .before .read-case .ensures) (c .before .before .enum-told .given .1))
 
 returns-2 : tie.Need-returns-2
 returns-2 c =
