@@ -1,19 +1,21 @@
--- DEMAND 1, over the calls' contracts: `demand-1-reader`, `demand-1-writer`, `demand-1-verdict`, `demand-1-listing`, `demand-1-replay`. Every file
--- and every length of lent room is taken; a bad one gets exactly its refusal number, and that changes nothing. Assumes nothing.
-use Prim.Native.Nat.{ℕ}
-use mathlib.Core.Path.{_≡_, refl, ap, subst}
+-- DEMAND 1, over the calls' contracts: `demand-1-reader`, `demand-1-log`, `demand-1-writer`, `demand-1-verdict`, `demand-1-listing`, `demand-1-replay`.
+-- Every file and every length of lent room is taken; a bad one gets exactly its refusal number, and that changes nothing. Assumes nothing.
+use Prim.Native.Nat.{ℕ, _+_, _-_}
+use mathlib.Core.Path.{_≡_, refl, sym, ap, _∙_, subst}
 use mathlib.Core.Bool.{Bool, true, false}
-use mathlib.Core.List.{List}
+use mathlib.Core.List.{List, []}
 use native.Mathlib.Omega.{arith}
 use lib.ListN.{length, getD}
 use lib.Dec.{eqb}
 use Rattle.walks.specs.Below.{pick}
 use Rattle.rack.specs.Run.{fires}
 use Rattle.rack.specs.Listing.{Asked}
-use Rattle.rack.specs.Layout.{zeroCase}
+use Rattle.rack.specs.Bytes.{part}
+use Rattle.rack.specs.Layout.{zeroCase, BreaksAt}
 use Rattle.rack.specs.Replay.{count, reached, reasonAfter, reason}
+use Rattle.rack.specs.Refusal.{speaks}
 use Rattle.rack.specs.Outcome.{zeroed}
-use Rattle.rack.specs.CaseFileOutcome.{ReaderRefuses, ReaderIs, WriterRefuses, WriterIs}
+use Rattle.rack.specs.CaseFileOutcome.{ReaderRefuses, ReaderIs, Address, LogIs, WriterRefuses, WriterIs}
 use Rattle.rack.specs.CaseFileOutcome as file
 use Rattle.rack.specs.VerdictOutcome.{VerdictRefuses, VerdictIs}
 use Rattle.rack.specs.VerdictOutcome as judge
@@ -33,8 +35,10 @@ use Rattle.rack.specs.declared.Listed.{Listed}
 use Rattle.rack.specs.declared.Listed.the-variants as Listing
 use Rattle.rack.specs.declared.Stop.the-variants as Replay
 use Rattle.rack.specs.declared.Replayed.{Replayed}
-use Rattle.rack.proofs.OneOutcome.{reader-one, writer-one, verdict-one, listing-one, replay-one}
-use Rattle.demands.specs.Refusals.{ReaderTaken, WriterTaken, VerdictTaken, ListingTaken, ReplayTaken}
+use Rattle.rack.proofs.OneOutcome.{reader-one, log-one, writer-one, verdict-one, listing-one, replay-one}
+use Rattle.rack.proofs.LogPlace.{log-labels, log-long}
+use Rattle.demands.specs.Refusals as refusals
+use Rattle.demands.specs.Refusals.{ReaderTaken, ShowsNothing, LogTaken, WriterTaken, VerdictTaken, ListingTaken, ReplayTaken}
 
 -- the refusal of two numbers is the refusal of two others that they are equal to
 moved : (P : ℕ → ℕ → Type 0) (a b n m : ℕ) → a ≡ n → b ≡ m → P a b → P n m
@@ -56,6 +60,28 @@ demand-1-reader {f} {x} o =
     nothing : {x : Reading} (n m : ℕ) → ReaderIs f x → x .outcome ≡ Reader.Refused n m → x .case ≡ zeroCase
     nothing n m (file.read r) e = let z : _≡_ {A = ℕ} 0 1 = cc in absurd (omega arith)
     nothing n m (file.refused r) e = refl
+
+-- ---- log
+
+broken : {f : List ℕ} {n m : ℕ} → ReaderRefuses f n m → BreaksAt f m
+broken (speaks b) = b
+
+pub demand-1-log : {f : List ℕ} {lent : Address} {l : List ℕ} {a : Address} → LogIs f lent l a → LogTaken f lent l a
+demand-1-log {f} {lent} {l} {a} o =
+    record {
+      nothing = record { only = only o; whenever = whenever };
+      front = λ n m r. log-one o (file.refused (broken r));
+      labels = λ c r. log-one o (file.shown r) .0 ∙ log-labels r;
+      in-place = λ c r. log-one o (file.shown r) .1;
+    }
+  where
+    only : {l : List ℕ} {a : Address} → LogIs f lent l a → l ≡ [] → ShowsNothing f
+    only (file.shown {c = c} r) e = refusals.no-label {c = c} r (sym (log-long r) ∙ ap (λ (z : List ℕ). length z) e)
+    only (file.refused b) e = refusals.refused (speaks b)
+
+    whenever : ShowsNothing f → l ≡ []
+    whenever (refusals.refused r) = log-one o (file.refused (broken r)) .0
+    whenever (refusals.no-label {c = c} r e) = log-one o (file.shown r) .0 ∙ ap (λ (k : ℕ). part f (length f - (k + 2)) k) e
 
 -- ---- writer
 

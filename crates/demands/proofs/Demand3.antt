@@ -1,6 +1,7 @@
 -- DEMAND 3, over the listing's contract: `demand-3`. Of a file without fault, asked from the start and then after each run it gives, any program
--- that meets the contract gives all explanations within the limit, each once, in the order of runs, truly marked, and then says the end.
--- Assumes nothing.
+-- that meets the contract gives all explanations within the limit, each once, in the order of runs, truly marked, and then says the end. Of a program it
+-- is known only what the calls `listing::first` and `listing::next` promise, whose given runs are bytes: no other run is ever asked after (`run-low`,
+-- `asked-low`). Assumes nothing.
 use Prim.Native.Nat.{ℕ, _≤_}
 use mathlib.Core.Path.{_≡_, refl, sym, _∙_, subst}
 use mathlib.Core.Bool.{Bool, true, false}
@@ -28,10 +29,11 @@ use Rattle.rack.specs.declared.Listed.the-variants.{End}
 use Rattle.rack.proofs.Accept.{firable-known}
 use Rattle.rack.proofs.Answer.{given-good, listing-accepts}
 use Rattle.rack.proofs.OneReading.{one-case}
+use Rattle.rack.proofs.WellFormed.{well-formed}
 use Rattle.rack.proofs.OneOutcome.{not-listed}
-use Rattle.demands.specs.Listings.{Answered, Meets, Enough, Explanation, gives, Asking, ended, given, Among, here, there, InOrder, then, Whole}
+use Rattle.demands.specs.Listings.{Answered, Low, InBytes, Meets, Enough, Explanation, gives, Asking, ended, given, Every, Among, here, there, InOrder, then, Truly, Whole}
 use Rattle.demands.specs.Listings as listing
-use Rattle.demands.proofs.Upward.{Low, upward-induction}
+use Rattle.demands.proofs.Upward.{upward-induction}
 
 -- the front of a room that holds a run is the run
 front : (r room : List ℕ) → take (length r) (holding r room) ≡ r
@@ -47,6 +49,17 @@ low-run c (t ∷ r) m u =
 explains-low : (c : Case) (r : List ℕ) → Explains c r → Low (c .arcs .count) r
 unfolding runs
 explains-low c r x = low-run c r (start c) (x .run)
+
+-- "TR 0..48": they are below 48, so a run that is given can be lent as bytes
+low-more : (a b : ℕ) → a ≤ b → (r : List ℕ) → Low a r → Low b r
+low-more a b h [] l = tt
+low-more a b h (t ∷ r) l = (omega (arith, l .0), low-more a b h r (l .1))
+
+pub run-low : {f : List ℕ} {c : Case} (r : List ℕ) → ReadsAs f c → Explains c r → Low 48 r
+run-low {f} {c} r reads x = low-more (c .arcs .count) 48 (well-formed reads .arcs .names .few) r (explains-low c r x)
+
+run-bytes : {f : List ℕ} {c : Case} (r : List ℕ) → ReadsAs f c → Explains c r → InBytes (after r)
+run-bytes r reads x = low-more 48 _ (omega arith) r (run-low r reads x)
 
 -- ---- one question
 
@@ -100,8 +113,8 @@ pub record Lists (c : Case) (limit : ℕ) (p : Asked → Answered) (a : Asked) :
 module _ {f : List ℕ} {c : Case} (reads : ReadsAs f c) (ok : NetsPass c) (limit : ℕ) (low : limit ≤ limitMost) (room work : Asked → List ℕ) (enough : Enough limit room work)
     (p : Asked → Answered) (meets : Meets f limit room work p) where
   -- one question, if every later one leads to the end
-  one-more : (a : Asked) → (GivenBad c limit a → ⊥) → ((r : List ℕ) → NextIs c limit a r → Lists c limit p (after r)) → Lists c limit p a
-  one-more a good rest = go (p a .answer) refl (told reads ok limit low a good (room a) (work a) (enough .for-runs a) (enough .for-work a) (meets a))
+  one-more : (a : Asked) → InBytes a → (GivenBad c limit a → ⊥) → ((r : List ℕ) → NextIs c limit a r → Lists c limit p (after r)) → Lists c limit p a
+  one-more a bytes good rest = go (p a .answer) refl (told reads ok limit low a good (room a) (work a) (enough .for-runs a) (enough .for-work a) (meets a bytes))
     where
       go : (x : Listed) → p a .answer ≡ x → Told c limit a x (p a .room) → Lists c limit p a
       go x e (at-end z) = record { all = []; asked = ended e; whole = whole-end c limit a z }
@@ -119,12 +132,12 @@ module _ {f : List ℕ} {c : Case} (reads : ReadsAs f c) (ok : NetsPass c) (limi
   lists-after =
       upward-induction (c .arcs .count) limit (λ r. Explains c r → Lists c limit p (after r))
       (λ r h w later-ones x.
-      one-more (after r) (given-good c limit r x h)
+      one-more (after r) (run-bytes r reads x) (given-good c limit r x h)
       (λ s z. later-ones s (z .within) (explains-low c s (z .explains)) (z .later-than) (z .explains)))
 
   -- DEMAND 3
   pub demand-3 : Lists c limit p from-start
-  demand-3 = one-more from-start (λ z. z) (λ r z. lists-after r (z .within) (explains-low c r (z .explains)) (z .explains))
+  demand-3 = one-more from-start tt (λ z. z) (λ r z. lists-after r (z .within) (explains-low c r (z .explains)) (z .explains))
 
 -- ---- what a whole listing and its asking say further
 
@@ -136,6 +149,11 @@ later-among r s l (then {x = x} {l = m} t o) (there h) = before-trans r (x .run)
 
 pub each-once : (r : List ℕ) (l : List Explanation) → InOrder (after r) l → Among r l → ⊥
 each-once r l o h = before-not-self r (later-among r r l o h)
+
+-- each run of a whole listing, so each that is asked after, holds numbers below 48 alone
+pub asked-low : {f : List ℕ} {c : Case} {limit : ℕ} (l : List Explanation) → ReadsAs f c → Every (Truly c limit) l → Every (λ x. Low 48 (x .run)) l
+asked-low l reads listing.none = listing.none
+asked-low (x ∷ l) reads (listing.also t u) = listing.also (run-low (x .run) reads (t .explains)) (asked-low l reads u)
 
 -- one sequence: what a program gives, asked to the end, is one list
 apart : (k : Bool) (n : ℕ) → gives k n ≡ End → ⊥

@@ -9,11 +9,7 @@ use lib.ListN.{length}
 use lib.Dec.{T}
 use Rattle.walks.specs.Order.{smaller, before}
 use Rattle.walks.proofs.Order.{smaller-cases, before-cases, no-smaller}
-
--- every number of the run is below b
-abbrev pub Low : ℕ → List ℕ → Type 0
-Low b [] = Unit {0}
-Low b (t ∷ r) = (t < b) × Low b r
+use Rattle.demands.specs.Listings.{Low}
 
 -- ---- runs of one length
 

@@ -1,6 +1,6 @@
 -- Asking a program for explanations to the end, and what a whole listing is.
 -- Assumes nothing.
-use Prim.Native.Nat.{ℕ, _≤_}
+use Prim.Native.Nat.{ℕ, _<_, _≤_}
 use mathlib.Core.Path.{_≡_}
 use mathlib.Core.Bool.{Bool}
 use mathlib.Core.List.{List, [], _∷_}
@@ -8,7 +8,7 @@ use lib.ListN.{length, take}
 use lib.Dec.{T}
 use Rattle.walks.specs.Below.{pick}
 use Rattle.rack.specs.Run.{Explains, matches}
-use Rattle.rack.specs.Listing.{Asked, after, later}
+use Rattle.rack.specs.Listing.{Asked, from-start, after, later}
 use Rattle.rack.specs.Refusal.{workRoom}
 use Rattle.rack.specs.ListingOutcome.{ListingIs}
 use Rattle.rack.specs.declared.Case.{Case}
@@ -23,9 +23,20 @@ pub record Answered : Type 0 where
   pub room : List ℕ
   pub work : List ℕ
 
--- for each question the program is lent a room for the run and a work room; its answer is one that the contract of the listing allows
+-- every number of the run is below b
+abbrev pub Low : ℕ → List ℕ → Type 0
+Low b [] = Unit {0}
+Low b (t ∷ r) = (t < b) × Low b r
+
+-- a question that can be put to the calls: from the start (`listing::first`), or after a run that is lent as bytes (`listing::next`)
+abbrev pub InBytes : Asked → Type 0
+InBytes from-start = Unit {0}
+InBytes (after g) = Low 256 g
+
+-- for each such question the program is lent a room for the run and a work room; its answer is one that the contract of the listing allows. The contracts
+-- of the two calls say just this: `first` for the question from the start, `next` for every given run of bytes.
 abbrev pub Meets : List ℕ → ℕ → (Asked → List ℕ) → (Asked → List ℕ) → (Asked → Answered) → Type 0
-Meets f limit room work p = (a : Asked) → ListingIs f limit a (room a) (work a) (p a .answer) (p a .room) (p a .work)
+Meets f limit room work p = (a : Asked) → InBytes a → ListingIs f limit a (room a) (work a) (p a .answer) (p a .room) (p a .work)
 
 -- "enough work room and run room for that length"
 pub record Enough (limit : ℕ) (room work : Asked → List ℕ) : Type 0 where

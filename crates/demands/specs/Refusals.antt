@@ -2,11 +2,12 @@
 -- Assumes nothing.
 use Prim.Native.Nat.{ℕ}
 use mathlib.Core.Path.{_≡_}
-use mathlib.Core.List.{List}
+use mathlib.Core.List.{List, []}
+use lib.ListN.{take}
 use Rattle.rack.specs.Listing.{Asked}
-use Rattle.rack.specs.Layout.{zeroCase}
+use Rattle.rack.specs.Layout.{zeroCase, ReadsAs}
 use Rattle.rack.specs.Outcome.{zeroed}
-use Rattle.rack.specs.CaseFileOutcome.{ReaderRefuses, WriterRefuses}
+use Rattle.rack.specs.CaseFileOutcome.{ReaderRefuses, Address, further, logOffset, WriterRefuses}
 use Rattle.rack.specs.VerdictOutcome.{VerdictRefuses}
 use Rattle.rack.specs.ListingOutcome.{ListingRefuses}
 use Rattle.rack.specs.ReplayOutcome.{replayRefused, ReplayRefuses}
@@ -32,6 +33,18 @@ pub record Exactly (A B : Type 0) : Type 0 where
 pub record ReaderTaken (f : List ℕ) (x : Reading) : Type 0 where
   pub refusal : (n m : ℕ) → Exactly (x .outcome ≡ Reader.Refused n m) (ReaderRefuses f n m)
   pub nothing-read : (n m : ℕ) → x .outcome ≡ Reader.Refused n m → x .case ≡ zeroCase
+
+-- "it is empty for a file refused by 2", and for one whose log has no label
+pub data ShowsNothing (f : List ℕ) : Type 0 where
+  refused : {p : ℕ} → ReaderRefuses f 2 p → ShowsNothing f
+  no-label : {c : Case} → ReadsAs f c → c .log .count ≡ 0 → ShowsNothing f
+
+-- the log call, of a file that is lent at an address: l is shown, and stands at a. It refuses nothing; a refused file shows the empty stretch at its front
+pub record LogTaken (f : List ℕ) (lent : Address) (l : List ℕ) (a : Address) : Type 0 where
+  pub nothing : Exactly (l ≡ []) (ShowsNothing f)
+  pub front : (n m : ℕ) → ReaderRefuses f n m → (l ≡ []) × (a ≡ lent)
+  pub labels : (c : Case) → ReadsAs f c → l ≡ take (c .log .count) (c .log .labels)
+  pub in-place : (c : Case) → ReadsAs f c → a ≡ further lent (logOffset f c)
 
 pub record WriterTaken (c : Case) (room : List ℕ) (x : Written) (a : List ℕ) : Type 0 where
   pub refusal : (n m : ℕ) → Exactly (x ≡ Writer.Refused n m) (WriterRefuses c room n m)

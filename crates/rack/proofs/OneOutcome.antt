@@ -11,9 +11,9 @@ use Rattle.rack.specs.Verdict.{FirstOfKind, IsFaulty, IsSafe, IsAmbiguou
 use Rattle.rack.specs.Listing.{Asked, NextIs, EndIs}
 use Rattle.rack.specs.Layout.{zeroCase, ReadsAs, BreaksAt}
 use Rattle.rack.specs.Writing.{bytesOf}
-use Rattle.rack.specs.Refusal.{Own, readerOrder, writerOrder, verdictOrder, listingOrder, replayOrder, none, also}
+use Rattle.rack.specs.Refusal.{layout, Own, readerOrder, writerOrder, verdictOrder, listingOrder, replayOrder, speaks, rests, none, also}
 use Rattle.rack.specs.Outcome.{ofFile, NoneSays, NoneRests, holding, zeroed}
-use Rattle.rack.specs.CaseFileOutcome.{ReaderIs, logStretch, LogIs, noFile, WriterSays, no-file, room-short, WriterRests, some-file, room-long, WriterIs}
+use Rattle.rack.specs.CaseFileOutcome.{ReaderIs, logOffset, logStretch, Address, further, LogIs, noFile, WriterSays, no-file, room-short, WriterRests, some-file, room-long, WriterIs}
 use Rattle.rack.specs.CaseFileOutcome as file
 use Rattle.rack.specs.VerdictOutcome.{ofVerdict, Fits, TooLong, RunShort, matching-short, other-short, RunsFit, VerdictSays, none-explains, run-short}
 use Rattle.rack.specs.VerdictOutcome.{VerdictRests, one-explains, runs-fit, VerdictRefuses, VerdictAccepts, VerdictIs, faulty, safe, ambiguous}
@@ -54,11 +54,14 @@ reader-one {f} (file.refused {n} {m} a) (file.refused {n = n′} {m = m′} b) =
 
 -- ---- log
 
-pub log-one : {f l k : List ℕ} → LogIs f l → LogIs f k → l ≡ k
-log-one {f} (file.shown a) (file.shown b) = ap (logStretch f) (one-case a b)
-log-one (file.shown a) (file.refused b) = absurd (reads-or-breaks a b)
-log-one (file.refused a) (file.shown b) = absurd (reads-or-breaks b a)
-log-one (file.refused a) (file.refused b) = refl
+-- the bytes, and where they stand
+pub log-one : {f l k : List ℕ} {lent a b : Address} → LogIs f lent l a → LogIs f lent k b → (l ≡ k) × (a ≡ b)
+log-one {f} {lent = lent} (file.shown p) (file.shown q) =
+    let e = one-case p q in
+    (ap (logStretch f) e, ap (λ (c : Case). further lent (logOffset f c)) e)
+log-one (file.shown p) (file.refused q) = absurd (reads-or-breaks p q)
+log-one (file.refused p) (file.shown q) = absurd (reads-or-breaks q p)
+log-one (file.refused p) (file.refused q) = (refl, refl)
 
 -- ---- writer
 

@@ -27,12 +27,25 @@ pub data ReaderIs (f : List ℕ) : Reading → Type 0 where
 -- ---- log: "a record's body is shown as the stretch of the caller's file that holds the labels; it is empty for a file refused by 2".
 -- The labels stand before EN's two bytes, at the file's end.
 
-abbrev pub logStretch : List ℕ → Case → List ℕ
-logStretch f c = part f (length f - (c .log .count + 2)) (c .log .count)
+abbrev pub logOffset : List ℕ → Case → ℕ
+logOffset f c = length f - (c .log .count + 2)
 
-pub data LogIs (f : List ℕ) : List ℕ → Type 0 where
-  shown : {c : Case} → ReadsAs f c → LogIs f (logStretch f c)
-  refused : {p : ℕ} → BreaksAt f p → LogIs f []
+abbrev pub logStretch : List ℕ → Case → List ℕ
+logStretch f c = part f (logOffset f c) (c .log .count)
+
+-- the address of a lent stretch: a block of memory, and the offset of the stretch's first byte in it
+abbrev pub Address : Type 0
+Address = ℕ × ℕ
+
+-- so many bytes further on in the same block
+abbrev pub further : Address → ℕ → Address
+further a n = (a .0, a .1 + n)
+
+-- Of a file that is lent at an address: the bytes that are shown, and where they stand. So a stretch that only looks the same, in the file or
+-- outside it, is another answer. The empty stretch of a refused file is the one at the file's front.
+pub data LogIs (f : List ℕ) (lent : Address) : List ℕ → Address → Type 0 where
+  shown : {c : Case} → ReadsAs f c → LogIs f lent (logStretch f c) (further lent (logOffset f c))
+  refused : {p : ℕ} → BreaksAt f p → LogIs f lent [] lent
 
 -- ---- writer
 

@@ -42,7 +42,7 @@ reason c run budget =
     let n = count c run budget in
     reasonAfter c n (length run) budget (reached c run budget) (getD run n 0)
 
--- the run explains the log, as a test (proofs/Replay.antt shows that it is `Explains`)
+-- the run explains the log, as a test; that it is `Explains` is shown by `explains-of` (proofs/Decide.antt) and `explains-yes` (proofs/Replaying.antt)
 unfoldable pub explains : Case → List ℕ → Bool
 explains c run = runs c run && same (shown c run) (logOf c)
 

@@ -4,4 +4,4 @@ pub mod Rows
 pub mod Answered
 pub mod Turns
 pub mod Given
-pub mod LogPlace
+pub mod LogCut

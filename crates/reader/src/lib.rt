@@ -91,9 +91,10 @@ pub fn read_case(file: &[u8]) -> Reading
     }
 }
 
-// The log's labels, as the stretch of the file that holds them; empty for a file that is refused.
+// The log's labels, as the stretch of the file that holds them: no copy, so the answer's address is bound too. For a file that is refused it is
+// the empty stretch at the file's front.
 pub fn log_of(file: &[u8]) -> &[u8]
-    ensures { λ r. ⌜ LogIs (now (file .entry)) (now r) ⌝ }
+    ensures { λ r. ⌜ LogIs (now (file .entry)) (file .entry .ptr) (now r) (r .ptr) ⌝ }
 {
     let reading = read_case(file);
     let outcome = reading.outcome;
@@ -103,6 +104,9 @@ pub fn log_of(file: &[u8]) -> &[u8]
             let from = file.len() - (count + 2);
             &file[from..from + count]
         }
-        Outcome::Refused(_, _) => &file[..0],
+        Outcome::Refused(_, _) => {
+            let front: usize = 0;
+            &file[front..front]
+        }
     }
 }

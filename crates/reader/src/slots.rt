@@ -1,7 +1,7 @@
 // The slots of a case: what a right record puts into them. Each kind of record has a struct of its own in the case, so a record changes
 // that struct alone.
-use crate::bytes::copy;
 use crate::bytes::wide;
+use crate::stretch::copy;
 use crate::stretch::mark_list;
 use crate::stretch::put_bounds;
 use rack::Arcs;

@@ -4,11 +4,24 @@ use crate::bytes::wide;
 ghost use mathlib.Core.Path.{_≡_};
 ghost use Prim.Native.Nat.{_+_, _*_, _≤_};
 ghost use lib.ListN.{length};
+ghost use lib.Seq.{paste};
 ghost use Rattle.walks.specs.Below.{allBelow, every, tableFrom};
 ghost use Rattle.rack.specs.Bytes.{part, atMost, put, marked, listAt, listEnd, ListIs};
 ghost use Rattle.rack.specs.Records.{bounds, observed};
 ghost use Rattle.reader.specs.Answer.{Answers};
 ghost use Rattle.reader.specs.RowsFit.{everySecond};
+
+// Copies `count` bytes, which stand in `bytes` from offset `from` on, to the front of room. The rest of room stays as it is.
+pub fn copy(room: &mut [u8], bytes: &[u8], from: usize, count: usize)
+    requires { ⌜ (from + count ≤ length (now bytes)) × (count ≤ length (now room)) ⌝ }
+    ensures { λ _. ⌜ now (room .exit) ≡ paste (now (room .entry)) 0 (part (now (bytes .entry)) from count) count ⌝ }
+{
+    let mut i: usize = 0;
+    while i < count {
+        room[i] = bytes[from + i];
+        i += 1;
+    }
+}
 
 // Marks a counted list of the file, which stands at `at`, in one of the rows, each `width` wide: a 1 at each number of the list. Gives
 // the offset after the list.

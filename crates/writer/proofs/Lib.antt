@@ -12,6 +12,7 @@ pub mod Segments
 pub mod Kept
 pub mod Lengths
 pub mod RoundTrip
+pub mod Longest
 pub mod Telling
 pub mod Structs
 pub mod Outcomes

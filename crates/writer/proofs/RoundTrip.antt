@@ -1,15 +1,26 @@
--- THE ROUND TRIP: what is read and written again is the same bytes, what is written and read is the same case; one case has one file,
--- none longer than 2,496 bytes. Assumes nothing.
-use mathlib.Core.Path.{_≡_, sym, ap, _∙_, subst}
+-- THE ROUND TRIP: what is read and written again is the same bytes, what is written and read is the same case, of the layout (`read-written`,
+-- `written-read`) and of the two calls (`read-then-write`, `write-then-read`); one case has one file, none longer than 2,496 bytes.
+-- Assumes nothing.
+use mathlib.Core.Path.{_≡_, refl, sym, ap, ap₂, _∙_, subst}
 use mathlib.Core.List.{List}
 use Prim.Native.Nat.{ℕ, _≤_}
-use lib.ListN.{length, take}
-use lib.Seq.{take-length}
+use native.Mathlib.Omega.{arith}
+use lib.ListN.{length, take, drop}
+use lib.Seq.{take-length, take-append-seam}
 use Rattle.rack.specs.Layout.{zeroCase, whole, Reads, done, next, ReadsAs}
 use Rattle.rack.specs.Writing.{bytesOf, Writable}
-use Rattle.rack.specs.CaseFileOutcome.{longestFile}
+use Rattle.rack.specs.Refusal.{none, also}
+use Rattle.rack.specs.Outcome.{holding}
+use Rattle.rack.specs.CaseFileOutcome.{longestFile, ReaderIs, some-file, room-long, WriterIs}
+use Rattle.rack.specs.CaseFileOutcome as file
 use Rattle.rack.specs.declared.Case.{Case}
+use Rattle.rack.specs.declared.Reading.{Reading}
+use Rattle.rack.specs.declared.Outcome.the-variants as Reader
+use Rattle.rack.specs.declared.Written.{Written}
+use Rattle.rack.specs.declared.Written.the-variants as Writer
+use Rattle.rack.proofs.OneOutcome.{reader-one, writer-one}
 use Rattle.rack.proofs.WellFormed.{well-formed}
+use Rattle.reader.proofs.Given.{given-whole}
 use Rattle.writer.specs.Limits.{Limits}
 use Rattle.writer.proofs.Segments.{soFar, all-segments}
 use Rattle.writer.proofs.Kept.{Kept, kept-next, kept-first}
@@ -48,3 +59,28 @@ read-limits r =
 -- "The longest file has 2,496 bytes."
 pub longest : {f : List ℕ} {c : Case} → ReadsAs f c → length f ≤ longestFile
 longest {f} {c} r = subst (λ (l : List ℕ). length l ≤ longestFile) (read-written r) (bytes-few c (read-limits r))
+
+-- ---- the same of the two calls
+
+-- what the writer has put at the front of the room, given to the reader: the case that was written, whole
+pub write-then-read : {c : Case} {room a : List ℕ} {n : ℕ} {x : Reading} → WriterIs c room (Writer.Bytes n) a → ReaderIs (take n a) x
+    → x ≡ record { outcome = Reader.Whole; case = c }
+write-then-read {c} {room} {a} {n} {x} w r = go w refl refl
+  where
+    go : {y : Written} {b : List ℕ} → WriterIs c room y b → y ≡ Writer.Bytes n → a ≡ b → x ≡ record { outcome = Reader.Whole; case = c }
+    go (file.written (also (some-file u) v)) e q =
+        let d : length (bytesOf c) ≡ n = cc in
+        let front : take n a ≡ bytesOf c = ap₂ take (sym d) q ∙ take-append-seam (bytesOf c) (drop (length (bytesOf c)) room) in
+        reader-one (subst (λ (f : List ℕ). ReaderIs f x) front r) (file.read (written-read u))
+    go (file.refused u) e q = let z : _≡_ {A = ℕ} 0 1 = cc in absurd (omega arith)
+
+-- what the reader has given, handed to the writer with room for the file: as many bytes, the same, at the room's front, and the rest unchanged
+pub read-then-write : {f : List ℕ} {x : Reading} {room a : List ℕ} {y : Written} → ReaderIs f x → x .outcome ≡ Reader.Whole → length f ≤ length room → WriterIs (x .case) room y a
+    → (y ≡ Writer.Bytes (length f)) × (a ≡ holding f room) × (take (length f) a ≡ f)
+read-then-write {f} {x} {room} {a} {y} r e h w =
+    let read = given-whole r e in
+    let same = read-written read in
+    let enough : length (bytesOf (x .case)) ≤ length room = subst (λ (l : List ℕ). length l ≤ length room) (sym same) h in
+    let (p, q) = writer-one w (file.written (also (some-file (record { file = f; reads = read })) (also (room-long enough) none))) in
+    let held : a ≡ holding f room = q ∙ ap (λ (l : List ℕ). holding l room) same in
+    (p ∙ ap (λ (l : List ℕ). Writer.Bytes (length l)) same, held, ap (take (length f)) held ∙ take-append-seam f (drop (length f) room))

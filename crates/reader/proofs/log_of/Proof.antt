@@ -1,14 +1,9 @@
 -- `reader::log_of` meets its contract. Assumes nothing.
 use borrow.Author.Needs.{needs}
 use native.Mathlib.Omega.{arith}
-use Prim.Native.Nat.{ℕ, _+_, _-_}
-use mathlib.Core.Path.{sym, ap, _∙_, subst}
-use lib.ListN.{length, take, drop}
-use Rattle.rack.specs.Bytes.{part}
 use Rattle.reader.proofs.Given.{given-whole, given-refused}
-use Rattle.reader.proofs.LogPlace.{log-fits}
-use native.Mathlib.Nat.{add-sub-cancel-left}
-use Rattle.rack.specs.CaseFileOutcome.{LogIs, shown, refused}
+use Rattle.rack.proofs.LogPlace.{log-fits}
+use Rattle.reader.proofs.LogCut.{cut-shown, cut-empty}
 use Rattle.reader.proofs.log_of.Statement.{statement}
 use Rattle.reader.proofs.log_of.Tie as tie
 
@@ -46,21 +41,26 @@ part-result-end c =
 enum-told-2 : tie.Need-enum-told-2
 enum-told-2 c = search needs
 
-slice-aggregate-result : tie.Need-slice-aggregate-result
-slice-aggregate-result c = search needs
+sub-result-2 : tie.Need-sub-result-2
+sub-result-2 c = search needs
+
+part-result-start-2 : tie.Need-part-result-start-2
+part-result-start-2 c = search needs
+
+part-result-end-2 : tie.Need-part-result-end-2
+part-result-end-2 c = search needs
 
 returns : tie.Need-returns
 returns c =
-    let f = c .before .before .before .before .before .before .args .file .now in
+    let file = c .before .before .before .before .before .before .args .file in
     let n = c .before .wide in
-    let r = given-whole (c .before .before .before .before .read-case .ensures) (c .before .before .enum-told .given .1) in
-    let from = length f - (n .result + 2) in
-    subst (LogIs f)
-    (sym (ap (λ (k : ℕ). take k (drop from f)) (add-sub-cancel-left from (n .result)) ∙ ap (λ (k : ℕ). part f (length f - (k + 2)) k) (n .ensures .0)))
-    (shown r)
+    cut-shown (file .ptr) _ (n .result) (omega (arith, n .ensures .0)) (n .ensures .0)
+    (given-whole (c .before .before .before .before .read-case .ensures) (c .before .before .enum-told .given .1))
 
 returns-2 : tie.Need-returns-2
-returns-2 c = refused (given-refused (c .before .before .before .read-case .ensures) (c .before .enum-told2 .given .1))
+returns-2 c =
+    let file = c .before .before .before .before .before .args .file in
+    cut-empty (file .ptr) _ (omega arith) (given-refused (c .before .before .before .read-case .ensures) (c .before .enum-told2 .given .1))
 
 pub log-of-spec : {M : Type 1} → statement M
 log-of-spec =
@@ -76,6 +76,8 @@ log-of-spec =
     part-result-start
     part-result-end
     enum-told-2
-    slice-aggregate-result
+    sub-result-2
+    part-result-start-2
+    part-result-end-2
     returns
     returns-2)

@@ -10,15 +10,15 @@ use lib.Dec.{eqb}
 use borrow.Author.Tests.{eqb-true}
 use Rattle.walks.specs.Below.{implies, allBelow}
 use Rattle.walks.proofs.Tests.{below-at, given, of-true, is-true}
 use Rattle.rack.specs.Bytes.{byte, part, listAt}
 use Rattle.rack.specs.Marks.{markAt, numberOf, follows, mayFollow}
 use Rattle.rack.specs.Records.{lgEnd, lgSays}
 use Rattle.rack.specs.Layout.{FieldsAre, endAt, added, zeroCase, whole, Reads, done, next, ReadsAs}
-use Rattle.rack.specs.CaseFileOutcome.{logStretch}
+use Rattle.rack.specs.CaseFileOutcome.{logOffset, logStretch}
 use Rattle.rack.specs.declared.Case.{Case}
 use Rattle.rack.specs.declared.Mark.{Mark}
 use Rattle.rack.specs.declared.Mark.the-variants.{Nt, Tr, Pr, Ob, Pt, Px, Qf, Lg, En, Absent}
 use Rattle.rack.proofs.WellFormedLists.{length-part, filled-back}
 
 -- EN comes after LG alone
 lg-first : ℕ → Bool
@@ -77,5 +77,9 @@ log-fits r = let s = stands-read r in omega (arith, s .0 .fits, s .1)
 pub log-labels : {f : List ℕ} {c : Case} → ReadsAs f c → logStretch f c ≡ take (c .log .count) (c .log .labels)
 log-labels {f} {c} r =
     let s = stands-read r in
-    let d : length f - (c .log .count + 2) ≡ length f - 2 - c .log .count = omega arith in
+    let d : logOffset f c ≡ length f - 2 - c .log .count = omega arith in
     ap (λ (x : ℕ). part f x (c .log .count)) d ∙ s .0 .are
+
+-- as many bytes as the log has labels
+pub log-long : {f : List ℕ} {c : Case} → ReadsAs f c → length (logStretch f c) ≡ c .log .count
+log-long {f} {c} r = length-part f (logOffset f c) (c .log .count) (omega (arith, log-fits r))

@@ -1,4 +1,4 @@
--- `reader::bytes::copy` meets its contract. The loop's invariant: the first i bytes are copied, and room keeps its length. Assumes nothing.
+-- `reader::stretch::copy` meets its contract. The loop's invariant: the first i bytes are copied, and room keeps its length. Assumes nothing.
 use borrow.Author.Needs.{needs}
 use native.Mathlib.Omega.{arith}
 use Prim.Native.Nat.{_-_, _≤_}
@@ -9,8 +9,8 @@ use lib.Seq.{paste, paste-zero}
 use Rattle.rack.proofs.WellFormedLists.{length-part}
 use Rattle.reader.proofs.Stretches.{getD-part}
 use Rattle.reader.proofs.Rows.{front-turn}
-use Rattle.reader.proofs.bytes.copy.Statement.{statement}
-use Rattle.reader.proofs.bytes.copy.Tie as tie
+use Rattle.reader.proofs.stretch.copy.Statement.{statement}
+use Rattle.reader.proofs.stretch.copy.Tie as tie
 
 abbrev Inv-loop : tie.InvT-loop
 Inv-loop room₀ bytes from count i₀ room i = (i ≤ count) × (length room ≡ length room₀) × (room ≡ paste room₀ 0 (part bytes from count) i)
