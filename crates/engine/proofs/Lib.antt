@@ -4,7 +4,7 @@ pub mod Nets
 pub mod Outranking
 pub mod FlagLaws
 pub mod Following
-pub mod CaseParts
+pub mod PlanLaws
 pub mod JoiningLaws
 pub mod HereLaws
 pub mod Kept

@@ -1,3 +1,4 @@
 pub mod Firing
-pub mod Parts
+pub mod Plan
+pub mod Fits
 pub mod Here
