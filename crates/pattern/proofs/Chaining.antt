@@ -1,6 +1,6 @@
--- Marks that spread along the priority pairs mark just what chains of pairs lead down to, and a pair that leads back to itself is a cycle.
--- Assumes nothing.
-use Prim.Native.Nat.{ℕ, zero, suc, _+_, _≤_, _<_}
+-- Marks that spread along the priority pairs of a case mark just what chains of pairs lead down to, and a pair that leads back to itself is
+-- a cycle. These laws speak of the case alone. Assumes nothing.
+use Prim.Native.Nat.{ℕ, zero, suc, _+_, _<_}
 use mathlib.Core.Path.{_≡_, refl, sym, ap, _∙_, subst}
 use mathlib.Core.Bool.{Bool, true, false}
 use mathlib.Core.List.{List, [], _∷_}
@@ -15,10 +15,10 @@ use Rattle.walks.specs.Walk.{walks, ends}
 use Rattle.walks.proofs.Tests.{and-left, and-right, and-both, of-true}
 use Rattle.walks.proofs.Closed.{walks-cons, closed-reached, reaches-self, reaches-more}
 use Rattle.rack.specs.Refusal.{pairAt, lowerOf, PairCycle}
-use Rattle.rack.specs.WellFormed.{PairsFit}
+use Rattle.rack.specs.WellFormed.{WellFormed}
 use Rattle.rack.proofs.WellFormedLists.{zeros}
 use Rattle.rack.specs.declared.Case.{Case}
-use Rattle.pattern.specs.Chains.{PairsKnown, pairIn, lowerIn, Down, Round, OpenAt}
+use Rattle.pattern.specs.Chains.{Down, PairBack, OpenAt}
 
 -- ---- how many places have no mark
 
@@ -39,52 +39,78 @@ unmarked-less (x ∷ l) (suc i) h n = let rec = unmarked-less l i (le-of-suc-le-
 
 -- ---- pairs that lead from a marked transition to one that is not
 
-abbrev pub OpenPair : List ℕ → List ℕ → List ℕ → ℕ → Type 0
-OpenPair higher lower marks k = (getD marks (getD higher k 0) 0 ≡ 1) × (getD marks (getD lower k 0) 0 ≡ 1 → ⊥)
+abbrev pub OpenPair : Case → List ℕ → ℕ → Type 0
+OpenPair c marks k = (getD marks (getD (c .pairs .higher) k 0) 0 ≡ 1) × (getD marks (getD (c .pairs .lower) k 0) 0 ≡ 1 → ⊥)
 
-pub none-open : {higher lower marks : List ℕ} {count : ℕ} → ((k : ℕ) → k < count → OpenPair higher lower marks k → ⊥)
-    → (t : ℕ) → OpenAt higher lower count marks t → ⊥
+pub none-open : {c : Case} {marks : List ℕ} → ((k : ℕ) → k < c .pairs .count → OpenPair c marks k → ⊥) → (t : ℕ) → OpenAt c marks t → ⊥
 none-open {marks = marks} none t o = none (o .pair) (o .below) (o .marked, λ e. o .fresh (ap (λ (u : ℕ). getD marks u 0) (sym (o .is)) ∙ e))
+
+-- ---- the pairs of a case
+
+module _ (c : Case) where
+  -- the pair k goes from its higher transition
+  pub pair-there : (k : ℕ) → k < c .pairs .count → T (pairAt c (getD (c .pairs .higher) k 0) k)
+  unfolding pairAt
+  pair-there k h =
+      let u = getD (c .pairs .higher) k 0 in
+      and-both (ltb k (c .pairs .count)) (eqb u u) (lt→ltb k (c .pairs .count) h) (of-true (eqb u u) (eq-eqb u u refl))
+
+  -- where the pair k goes from u, there is a pair k, and its higher transition is u
+  pub pair-below : (u k : ℕ) → T (pairAt c u k) → k < c .pairs .count
+  unfolding pairAt
+  pair-below u k p = ltb→lt k (c .pairs .count) (and-left (ltb k (c .pairs .count)) (eqb (getD (c .pairs .higher) k 0) u) p)
+
+  pub pair-higher : (u k : ℕ) → T (pairAt c u k) → getD (c .pairs .higher) k 0 ≡ u
+  unfolding pairAt
+  pair-higher u k p = eqb→eq (getD (c .pairs .higher) k 0) u (and-right (ltb k (c .pairs .count)) (eqb (getD (c .pairs .higher) k 0) u) p)
+
+-- a case that was read has at most 32 pairs, and each names transitions below 48
+module _ {c : Case} (well : WellFormed c) (k : ℕ) (h : k < c .pairs .count) where
+  pub pair-low : k < 32
+  pair-low = omega (arith, well .pairs .highers .few)
+
+  pub higher-low : getD (c .pairs .higher) k 0 < 48
+  higher-low = omega (arith, well .pairs .highers .below k h, well .arcs .names .few)
+
+  pub lower-low : getD (c .pairs .lower) k 0 < 48
+  lower-low = omega (arith, well .pairs .lowers .below k h, well .arcs .names .few)
 
 -- ---- marks that spread from one transition
 
-pub record Spread (higher lower : List ℕ) (count first : ℕ) (marks : List ℕ) : Type 0 where
+pub record Spread (c : Case) (first : ℕ) (marks : List ℕ) : Type 0 where
   pub long : length marks ≡ 48
   pub start : getD marks first 0 ≡ 1
-  pub sound : (u : ℕ) → getD marks u 0 ≡ 1 → Down higher lower count first u
+  pub sound : (u : ℕ) → getD marks u 0 ≡ 1 → Down c first u
 
-module _ (higher lower : List ℕ) (count first : ℕ) where
+module _ (c : Case) (first : ℕ) where
   -- what is marked after a store of 1 at t was marked before, or is t
-  after-mark : (marks : List ℕ) (t : ℕ) → ((u : ℕ) → getD marks u 0 ≡ 1 → Down higher lower count first u) → Down higher lower count first t
-      → (u : ℕ) → getD (set marks t 1) u 0 ≡ 1 → Down higher lower count first u
+  after-mark : (marks : List ℕ) (t : ℕ) → ((u : ℕ) → getD marks u 0 ≡ 1 → Down c first u) → Down c first t → (u : ℕ) → getD (set marks t 1) u 0 ≡ 1 → Down c first u
   after-mark marks t old new u e = go (eqb u t) refl
     where
-      go : (b : Bool) → eqb u t ≡ b → Down higher lower count first u
-      go true q = subst (Down higher lower count first) (sym (eqb-true u t q)) new
+      go : (b : Bool) → eqb u t ≡ b → Down c first u
+      go true q = subst (Down c first) (sym (eqb-true u t q)) new
       go false q = old u (sym (getD-set-other marks t u 1 0 (eqb-false u t q)) ∙ e)
 
-  pub spread-start : first < 48 → Spread higher lower count first (set (replicate 48 0) first 1)
+  pub spread-start : first < 48 → Spread c first (set (replicate 48 0) first 1)
   spread-start h =
       record {
         long = length-set (replicate 48 0) first 1 ∙ length-replicate {A = ℕ} 48 0;
         start = getD-set-same (replicate 48 0) first 1 0 (omega (arith, length-replicate {A = ℕ} 48 0));
-        sound =
-            after-mark (replicate 48 0) first (λ u e. absurd (omega (arith, e, zeros 48 u)))
-            (reaches-self (pairIn higher count) (lowerIn lower) first);
+        sound = after-mark (replicate 48 0) first (λ u e. absurd (omega (arith, e, zeros 48 u))) (reaches-self (pairAt c) (lowerOf c) first);
       }
 
-module _ {higher lower : List ℕ} {count first : ℕ} {marks : List ℕ} (x : Spread higher lower count first marks) where
+module _ {c : Case} {first : ℕ} {marks : List ℕ} (x : Spread c first marks) where
   -- where a pair leads from a marked transition is marked next
-  pub spread-more : (t : ℕ) → t < 48 → OpenAt higher lower count marks t → Spread higher lower count first (set marks t 1)
-  unfolding pairIn lowerIn
+  pub spread-more : (t : ℕ) → t < 48 → OpenAt c marks t → Spread c first (set marks t 1)
+  unfolding lowerOf
   spread-more t h o =
-      let u = getD higher (o .pair) 0 in
-      let there : T (pairIn higher count u (o .pair)) = and-both (ltb (o .pair) count) (eqb u u) (lt→ltb (o .pair) count (o .below)) (of-true (eqb u u) (eq-eqb u u refl)) in
-      let reached : Down higher lower count first (getD lower (o .pair) 0) = reaches-more (pairIn higher count) (lowerIn lower) first u (o .pair) (x .sound u (o .marked)) there in
+      let u = getD (c .pairs .higher) (o .pair) 0 in
+      let there : T (pairAt c u (o .pair)) = pair-there c (o .pair) (o .below) in
+      let reached : Down c first (getD (c .pairs .lower) (o .pair) 0) = reaches-more (pairAt c) (lowerOf c) first u (o .pair) (x .sound u (o .marked)) there in
       record {
         long = length-set marks t 1 ∙ x .long;
         start = kept (eqb first t) refl;
-        sound = after-mark higher lower count first marks t (x .sound) (subst (Down higher lower count first) (o .is) reached);
+        sound = after-mark c first marks t (x .sound) (subst (Down c first) (o .is) reached);
       }
     where
       kept : (b : Bool) → eqb first t ≡ b → getD (set marks t 1) first 0 ≡ 1
@@ -92,64 +118,46 @@ module _ {higher lower : List ℕ} {count first : ℕ} {marks : List ℕ} (x : S
       kept false q = getD-set-other marks t first 1 0 (eqb-false first t q) ∙ x .start
 
   -- where no pair leads from a marked transition to another, every transition that is led to is marked
-  pub spread-end : ((t : ℕ) → OpenAt higher lower count marks t → ⊥) → (v : ℕ) → Down higher lower count first v → getD marks v 0 ≡ 1
-  unfolding pairIn lowerIn
-  spread-end shut v r = closed-reached (pairIn higher count) (lowerIn lower) (λ u. getD marks u 0 ≡ 1) closed first v (x .start) r
+  pub spread-end : ((t : ℕ) → OpenAt c marks t → ⊥) → (v : ℕ) → Down c first v → getD marks v 0 ≡ 1
+  unfolding lowerOf
+  spread-end shut v r = closed-reached (pairAt c) (lowerOf c) (λ u. getD marks u 0 ≡ 1) closed first v (x .start) r
     where
-      closed : (u k : ℕ) → getD marks u 0 ≡ 1 → T (pairIn higher count u k) → getD marks (lowerIn lower u k) 0 ≡ 1
-      closed u k m p = go (eqb (getD marks (getD lower k 0) 0) 1) refl
+      closed : (u k : ℕ) → getD marks u 0 ≡ 1 → T (pairAt c u k) → getD marks (lowerOf c u k) 0 ≡ 1
+      closed u k m p = go (eqb (getD marks (getD (c .pairs .lower) k 0) 0) 1) refl
         where
-          go : (b : Bool) → eqb (getD marks (getD lower k 0) 0) 1 ≡ b → getD marks (getD lower k 0) 0 ≡ 1
-          go true q = eqb-true (getD marks (getD lower k 0) 0) 1 q
+          go : (b : Bool) → eqb (getD marks (getD (c .pairs .lower) k 0) 0) 1 ≡ b → getD marks (getD (c .pairs .lower) k 0) 0 ≡ 1
+          go true q = eqb-true (getD marks (getD (c .pairs .lower) k 0) 0) 1 q
           go false q =
               absurd
-              (shut (getD lower k 0)
+              (shut (getD (c .pairs .lower) k 0)
               (record {
                 pair = k;
-                below = ltb→lt k count (and-left (ltb k count) (eqb (getD higher k 0) u) p);
-                marked = rw (eqb→eq (getD higher k 0) u (and-right (ltb k count) (eqb (getD higher k 0) u) p)) m;
+                below = pair-below c u k p;
+                marked = rw (pair-higher c u k p) m;
                 is = refl;
-                fresh = eqb-false (getD marks (getD lower k 0) 0) 1 q;
+                fresh = eqb-false (getD marks (getD (c .pairs .lower) k 0) 0) 1 q;
               }))
 
--- ---- a cycle in the pairs of a case
-
-pub pairs-known : (n : ℕ) (c : Case) → n ≤ 48 → PairsFit n (c .pairs) → PairsKnown (c .pairs .higher) (c .pairs .lower) (c .pairs .count)
-pairs-known n c h f =
-    record {
-      few = f .highers .few;
-      highers = λ k l. omega (arith, f .highers .below k l);
-      lowers = λ k l. omega (arith, f .lowers .below k l);
-    }
+-- ---- a cycle
 
 module _ (c : Case) where
-  pub round-cycle : Round (c .pairs .higher) (c .pairs .lower) (c .pairs .count) → PairCycle c
-  unfolding walks ends pairIn lowerIn pairAt lowerOf
-  round-cycle r =
-      let u = getD (c .pairs .higher) (r .pair) 0 in
+  -- a pair whose lower transition leads back to its higher one closes a cycle
+  pub back-cycle : (k : ℕ) → k < c .pairs .count → PairBack c k → PairCycle c
+  unfolding walks ends lowerOf
+  back-cycle k h back =
+      let u = getD (c .pairs .higher) k 0 in
       record {
         top = u;
-        pair = r .pair;
-        rest = r .back .by;
-        chain =
-            and-both (pairAt c u (r .pair)) (walks (pairAt c) (lowerOf c) (lowerOf c u (r .pair)) (r .back .by))
-            (and-both (ltb (r .pair) (c .pairs .count)) (eqb u u) (lt→ltb (r .pair) (c .pairs .count) (r .below)) (of-true (eqb u u) (eq-eqb u u refl)))
-            (r .back .walked);
-        round = r .back .there;
+        pair = k;
+        rest = back .by;
+        chain = and-both (pairAt c u k) (walks (pairAt c) (lowerOf c) (lowerOf c u k) (back .by)) (pair-there c k h) (back .walked);
+        round = back .there;
       }
 
-  pub cycle-round : PairCycle c → Round (c .pairs .higher) (c .pairs .lower) (c .pairs .count)
-  unfolding walks ends pairIn lowerIn pairAt lowerOf
-  cycle-round r =
+  -- and in a cycle the first pair leads back
+  pub no-cycle : ((k : ℕ) → k < c .pairs .count → PairBack c k → ⊥) → PairCycle c → ⊥
+  unfolding ends lowerOf
+  no-cycle none r =
       let k = r .pair in
       let (first, rest) = walks-cons (pairAt c) (lowerOf c) (r .top) k (r .rest) (r .chain) in
-      record {
-        pair = k;
-        below = ltb→lt k (c .pairs .count) (and-left (ltb k (c .pairs .count)) (eqb (getD (c .pairs .higher) k 0) (r .top)) first);
-        back =
-            record {
-              by = r .rest;
-              walked = rest;
-              there = r .round ∙ sym (eqb→eq (getD (c .pairs .higher) k 0) (r .top) (and-right (ltb k (c .pairs .count)) (eqb (getD (c .pairs .higher) k 0) (r .top)) first));
-            };
-      }
+      none k (pair-below c (r .top) k first) (record { by = r .rest; walked = rest; there = r .round ∙ sym (pair-higher c (r .top) k first) })

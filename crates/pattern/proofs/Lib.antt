@@ -6,4 +6,3 @@ pub mod Exploring
 pub mod Scanning
 pub mod RowScan
 pub mod CaseChecks
-pub mod Passed

@@ -1,50 +1,25 @@
--- Chains of priority pairs, over the two lists that hold a case's pairs, and what the search for a cycle answers.
+-- Chains of the priority pairs of a case, and marks that spread along them.
 -- Assumes nothing.
-use Prim.Native.Nat.{ℕ, _≤_, _<_}
+use Prim.Native.Nat.{ℕ, _<_}
 use mathlib.Core.Path.{_≡_}
-use mathlib.Core.Bool.{Bool, _&&_}
 use mathlib.Core.List.{List}
 use lib.ListN.{getD}
-use lib.Dec.{ltb, eqb}
 use Rattle.walks.specs.Walk.{Reaches}
-use Rattle.pattern.specs.declared.cycle.Open.{Open}
-use Rattle.pattern.specs.declared.cycle.Open.the-variants.{At, Nothing}
-
--- at most 32 pairs, and each names transitions below 48
-pub record PairsKnown (higher lower : List ℕ) (count : ℕ) : Type 0 where
-  pub few : count ≤ 32
-  pub highers : (k : ℕ) → k < count → getD higher k 0 < 48
-  pub lowers : (k : ℕ) → k < count → getD lower k 0 < 48
-
--- the pair k goes from its higher transition u to its lower one
-unfoldable pub pairIn : List ℕ → ℕ → ℕ → ℕ → Bool
-pairIn higher count u k = ltb k count && eqb (getD higher k 0) u
-
-unfoldable pub lowerIn : List ℕ → ℕ → ℕ → ℕ
-lowerIn lower u k = getD lower k 0
+use Rattle.rack.specs.Refusal.{pairAt, lowerOf}
+use Rattle.rack.specs.declared.Case.{Case}
 
 -- pairs, perhaps none, lead from the transition u down to v
-abbrev pub Down : List ℕ → List ℕ → ℕ → ℕ → ℕ → Type 0
-Down higher lower count u v = Reaches (pairIn higher count) (lowerIn lower) u v
+abbrev pub Down : Case → ℕ → ℕ → Type 0
+Down c u v = Reaches (pairAt c) (lowerOf c) u v
 
 -- the lower transition of the pair k leads back to its higher one
-abbrev pub PairBack : List ℕ → List ℕ → ℕ → ℕ → Type 0
-PairBack higher lower count k = Down higher lower count (getD lower k 0) (getD higher k 0)
-
--- some pair leads back
-pub record Round (higher lower : List ℕ) (count : ℕ) : Type 0 where
-  pub pair : ℕ
-  pub below : pair < count
-  pub back : PairBack higher lower count pair
+abbrev pub PairBack : Case → ℕ → Type 0
+PairBack c k = Down c (getD (c .pairs .lower) k 0) (getD (c .pairs .higher) k 0)
 
 -- a pair leads from a marked transition to t, which is not marked
-pub record OpenAt (higher lower : List ℕ) (count : ℕ) (marks : List ℕ) (t : ℕ) : Type 0 where
+pub record OpenAt (c : Case) (marks : List ℕ) (t : ℕ) : Type 0 where
   pub pair : ℕ
-  pub below : pair < count
-  pub marked : getD marks (getD higher pair 0) 0 ≡ 1
-  pub is : getD lower pair 0 ≡ t
+  pub below : pair < c .pairs .count
+  pub marked : getD marks (getD (c .pairs .higher) pair 0) 0 ≡ 1
+  pub is : getD (c .pairs .lower) pair 0 ≡ t
   pub fresh : getD marks t 0 ≡ 1 → ⊥
-
-abbrev pub OpenSays : List ℕ → List ℕ → ℕ → List ℕ → Open → Type 0
-OpenSays higher lower count marks (At t) = OpenAt higher lower count marks (t .0)
-OpenSays higher lower count marks Nothing = (t : ℕ) → OpenAt higher lower count marks t → ⊥

@@ -5,43 +5,42 @@ use mathlib.Core.Path.{_≡_, subst}
 use native.Mathlib.Omega.{arith}
 use borrow.Author.Needs.{needs}
 use borrow.Author.Tests.{eqb-true, eq-eqb}
+use Rattle.engine.specs.Plan.{planned}
 use Rattle.pattern.specs.declared.cycle.Open.{Open}
 use Rattle.pattern.specs.declared.cycle.Open.the-variants.{At, Nothing}
-use Rattle.pattern.specs.Chains.{OpenAt, OpenSays}
-use Rattle.pattern.proofs.Chaining.{unmarked, unmarked-less, Spread, spread-start, spread-more, spread-end}
+use Rattle.pattern.specs.Chains.{OpenAt}
+use Rattle.pattern.specs.Outcome.{OpenSays}
+use Rattle.pattern.proofs.Chaining.{unmarked, unmarked-less, lower-low, Spread, spread-start, spread-more, spread-end}
 use Rattle.pattern.proofs.cycle.leads_down.Statement.{statement}
 use Rattle.pattern.proofs.cycle.leads_down.Tie as tie
 
 abbrev Inv-loop : tie.InvT-loop
-Inv-loop higher lower count first last marks₀ marks = Spread higher lower count first marks
+Inv-loop plan first last marks₀ marks = Spread (planned plan) first marks
 
 abbrev μ-loop : tie.MeasureT-loop
-μ-loop higher lower count first last marks₀ marks = unmarked marks
+μ-loop plan first last marks₀ marks = unmarked marks
 
 -- what `open_pair` said, at the answer that the arm is for
 told : (c : tie.After-open-pair Inv-loop μ-loop) (o : Open) → c .open-pair .result ≡ o
-    → OpenSays (c .before .before .before .args .higher .now) (c .before .before .before .args .lower .now) (c .before .before .before .args .count) (c .before .before .loop .marks) o
-told c o e =
-    let s = c .before .before .before .args in
-    subst (OpenSays (s .higher .now) (s .lower .now) (s .count) (c .before .before .loop .marks)) e (c .open-pair .ensures)
+    → OpenSays (planned (c .before .before .before .args .plan .now)) (c .before .before .loop .marks) o
+told c o e = subst (OpenSays (planned (c .before .before .before .args .plan .now)) (c .before .before .loop .marks)) e (c .open-pair .ensures)
 
 -- the loop's head, seen from the arm that marks a transition
 abbrev head : tie.After-found Inv-loop μ-loop → tie.At-loop Inv-loop μ-loop
 head c = c .before .before .before .before
 
 -- what is known of the transition that is to be marked, and that it is one of the 48
-next-open : (c : tie.After-found Inv-loop μ-loop)
-    → OpenAt (head c .before .args .higher .now) (head c .before .args .lower .now) (head c .before .args .count) (head c .loop .marks) (c .found .given .0 .0 .0)
+next-open : (c : tie.After-found Inv-loop μ-loop) → OpenAt (planned (head c .before .args .plan .now)) (head c .loop .marks) (c .found .given .0 .0 .0)
 next-open c = told (c .before .before) (At (c .found .given .0 .0)) (c .found .given .1)
 
 next-low : (c : tie.After-found Inv-loop μ-loop) → c .found .given .0 .0 .0 < 48
-next-low c = let o = next-open c in omega (arith, o .is, head c .before .pre .0 .lowers (o .pair) (o .below))
+next-low c = let o = next-open c in omega (arith, o .is, lower-low (head c .before .pre .0) (o .pair) (o .below))
 
 array-write-marks : tie.Need-array-write-marks Inv-loop μ-loop
 array-write-marks c = search needs
 
 loop-holds : tie.Need-loop-holds Inv-loop μ-loop
-loop-holds c = spread-start _ _ _ _ (search needs)
+loop-holds c = spread-start _ _ (search needs)
 
 open-pair-requires : tie.Need-open-pair-requires Inv-loop μ-loop
 open-pair-requires c κs = search needs
