@@ -5,6 +5,8 @@ pub mod Outranking
 pub mod FlagLaws
 pub mod Following
 pub mod PlanLaws
+pub mod Putting
 pub mod JoiningLaws
 pub mod HereLaws
 pub mod Kept
+pub mod FitLaws
