@@ -10,3 +10,4 @@ pub mod JoiningLaws
 pub mod HereLaws
 pub mod Kept
 pub mod FitLaws
+pub mod PositionLaws

@@ -2,3 +2,4 @@ pub mod Firing
 pub mod Plan
 pub mod Fits
 pub mod Here
+pub mod Position
