@@ -1,11 +1,10 @@
--- For the calls that read a file and then make the checks 3 to 9 of its case: what the outcome of the reader and the answer of `check` mean together.
--- Assumes nothing.
-use Prim.Native.Nat.{ℕ}
+-- From what the reader and the checks 3 to 9 answer to what opening a file answers, and what callers take from it. Assumes nothing.
+use Prim.Native.Nat.{ℕ, _≤_}
 use mathlib.Core.Path.{_≡_, sym, ap, _∙_, subst}
 use mathlib.Core.List.{List}
 use native.Mathlib.Omega.{arith}
-use lib.ListN.{replicate}
-use Rattle.rack.specs.Layout.{ReadsAs, BreaksAt}
+use lib.ListN.{length, replicate}
+use Rattle.rack.specs.Layout.{ReadsAs}
 use Rattle.rack.specs.WellFormed.{WellFormed}
 use Rattle.rack.specs.Refusal.{speaks}
 use Rattle.rack.specs.Outcome.{zeroed}
@@ -14,15 +13,17 @@ use Rattle.rack.specs.declared.Case.{Case}
 use Rattle.rack.specs.declared.Reading.{Reading}
 use Rattle.rack.specs.declared.Outcome.the-variants as Outcome
 use Rattle.rack.proofs.WellFormed.{well-formed}
+use Rattle.engine.specs.Plan.{planned}
 use Rattle.reader.proofs.Given.{given-whole, given-refused}
 use Rattle.admit.specs.declared.Answer.{Answer}
 use Rattle.admit.specs.declared.Answer.the-variants.{Table, Refused}
-use Rattle.admit.specs.Admits.{NetsRefuse, Passes, AnswerSays, CaseSays}
+use Rattle.admit.specs.Admits.{AnswerSays, CaseSays, RefusedFile, of-layout, of-nets, OpenRefuses, of-file, Opened, OpenAnswer, OpenSays}
 
--- the file is refused by n, with m beside it: it breaks the layout, or the nets of its case are refused
-pub data RefusedFile (f : List ℕ) : ℕ → ℕ → Type 0 where
-  of-layout : {p : ℕ} → BreaksAt f p → RefusedFile f 2 p
-  of-nets : {c : Case} {n m : ℕ} → ReadsAs f c → NetsRefuse c n m → RefusedFile f n m
+-- ---- a refusal
+
+pub open-refuses : {f : List ℕ} {needed : ℕ} {work₀ plan work : List ℕ} {n m : ℕ} {r : Answer} → OpenRefuses f needed (length work₀) n m → r ≡ Refused n m → work ≡ zeroed work₀
+    → OpenSays f needed work₀ plan work r
+open-refuses {f} {needed} {work₀} {plan} {work} x e z = record { answer = subst (OpenAnswer f needed work₀ plan work) (sym e) (z, x) }
 
 -- the reader refuses by 2 alone
 number-two : {f : List ℕ} {r : Reading} {n m : ℕ} → ReaderIs f r → r .outcome ≡ Outcome.Refused n m → n ≡ 2
@@ -36,13 +37,34 @@ module _ {f : List ℕ} {r : Reading} (x : ReaderIs f r) (whole : r .outcome ≡
   pub case-well : WellFormed (r .case)
   case-well = well-formed (given-whole x whole)
 
-  module _ {work room : List ℕ} {a : Answer} (y : CaseSays (r .case) work room a) where
-    pub checks-refuse : {n m : ℕ} → a ≡ Refused n m → RefusedFile f n m
-    checks-refuse e = of-nets (given-whole x whole) (subst (AnswerSays (r .case) room) e (y .answer))
+  module _ {plan : List ℕ} (made : planned plan ≡ r .case) where
+    pub plan-well : WellFormed (planned plan)
+    plan-well = subst WellFormed (sym made) case-well
 
-    pub checks-pass : {n : ℕ} → a ≡ Table n → ReadsAs f (r .case) × Passes (r .case) room n
-    checks-pass e = (given-whole x whole, subst (AnswerSays (r .case) room) e (y .answer))
+    plan-reads : ReadsAs f (planned plan)
+    plan-reads = subst (ReadsAs f) (sym made) (given-whole x whole)
+
+    module _ {work room : List ℕ} {a : Answer} (y : CaseSays (planned plan) work room a) where
+      pub checks-refuse : {needed n m : ℕ} → needed ≤ length work → a ≡ Refused n m → OpenRefuses f needed (length work) n m
+      checks-refuse h e = of-file h (of-nets plan-reads (subst (AnswerSays (planned plan) room) e (y .answer)))
+
+      pub checks-pass : {needed n : ℕ} {r : Answer} → needed ≤ length work → a ≡ Table n → r ≡ Table n → OpenSays f needed work plan room r
+      checks-pass {needed} h e q =
+          record {
+            answer =
+                subst (OpenAnswer f needed work plan room) (sym q)
+                (record { enough = h; long = y .long; reads = plan-reads; passes = subst (AnswerSays (planned plan) room) e (y .answer) });
+          }
 
 -- the work room, cleared after the checks
-pub cleared-after : {c : Case} {a : Answer} (work room v : List ℕ) → CaseSays c work room a → v ≡ zeroed room → v ≡ zeroed work
-cleared-after work room v y z = z ∙ ap (λ (n : ℕ). replicate n 0) (y .long)
+pub cleared-after : {c : Case} {a : Answer} {work room v : List ℕ} → CaseSays c work room a → v ≡ zeroed room → v ≡ zeroed work
+cleared-after y z = z ∙ ap (λ (n : ℕ). replicate n 0) (y .long)
+
+-- ---- for callers
+
+module _ {f : List ℕ} {needed : ℕ} {work₀ plan work : List ℕ} {r : Answer} (x : OpenSays f needed work₀ plan work r) where
+  pub opened : {n : ℕ} → r ≡ Table n → Opened f needed work₀ plan work n
+  opened e = subst (OpenAnswer f needed work₀ plan work) e (x .answer)
+
+  pub closed : {n m : ℕ} → r ≡ Refused n m → (work ≡ zeroed work₀) × OpenRefuses f needed (length work₀) n m
+  closed e = subst (OpenAnswer f needed work₀ plan work) e (x .answer)
