@@ -37,7 +37,7 @@ module _ {f : List ℕ} {r : Reading} (x : ReaderIs f r) (whole : r .outcome ≡
   pub case-well : WellFormed (r .case)
   case-well = well-formed (given-whole x whole)
 
-  module _ {plan : List ℕ} (made : planned plan ≡ r .case) where
+  module _ (plan : List ℕ) (made : planned plan ≡ r .case) where
     pub plan-well : WellFormed (planned plan)
     plan-well = subst WellFormed (sym made) case-well
 

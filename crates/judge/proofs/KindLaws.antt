@@ -17,7 +17,8 @@ use Rattle.rack.specs.declared.Judged.{Judged}
 use Rattle.rack.specs.declared.Verdict.the-variants as Verdict
 use Rattle.rack.proofs.OneFirst.{first-one}
 use Rattle.rack.proofs.Nodes.{first-of-nodes, none-of-nodes}
-use Rattle.search.specs.Nodes.{idAt, nodeAt, Searching}
+use Rattle.steps.specs.Nodes.{nodeAt}
+use Rattle.search.specs.Nodes.{idAt, Searching}
 use Rattle.search.specs.Found.{PlaceSays, SearchSays, RunWritten}
 use Rattle.search.specs.GoingBack.{MetAt}
 use Rattle.search.specs.declared.Place.{Place}

@@ -10,7 +10,8 @@ use Rattle.rack.specs.Run.{Explains, matches}
 use Rattle.rack.specs.Keep.{moves, onto}
 use Rattle.rack.specs.Verdict.{FirstOfKind}
 use Rattle.rack.specs.declared.Case.{Case}
-use Rattle.search.specs.Nodes.{idAt, nodeAt}
+use Rattle.steps.specs.Nodes.{nodeAt}
+use Rattle.search.specs.Nodes.{idAt}
 use Rattle.search.specs.GoingBack.{MetAt}
 use Rattle.search.specs.declared.Place.{Place}
 use Rattle.search.specs.declared.Place.the-variants.{At, Nowhere}
