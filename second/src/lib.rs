@@ -12,6 +12,7 @@ pub mod corpus;
 pub mod judge;
 pub mod known;
 pub mod make;
+pub mod memory;
 pub mod net;
 pub mod random;
 pub mod replay;

@@ -10,13 +10,12 @@ use second::answers;
 use second::bench::Bench;
 use second::case::{self, KEPT_BYTES};
 use second::compare;
-use second::corpus::{self, Corpus};
+use second::corpus::Corpus;
 use second::make;
 
 const USAGE: &str = "usage: second verdict | list LIMIT | next LIMIT [after N ...] \
                      | replay BUDGET N ... | rewrite | checks | make SEED COUNT DIR \
-                     | corpus files|checks|verdicts|listings|replays DIR \
-                     | compare SEED COUNT DIR | bench worst|deep LINES | bench long|hub|maze";
+                     | corpus DIR | compare SEED COUNT DIR | bench worst|deep LINES | bench long|hub|maze";
 
 enum Command {
     Verdict,
@@ -39,7 +38,6 @@ enum Command {
         folder: PathBuf,
     },
     Corpus {
-        kind: corpus::Kind,
         folder: PathBuf,
     },
     Compare {
@@ -94,8 +92,7 @@ fn parse(arguments: &[OsString]) -> Option<Command> {
             count: number(count)?,
             folder: PathBuf::from(folder),
         }),
-        ("corpus", [kind, folder]) => Some(Command::Corpus {
-            kind: corpus::Kind::named(kind.to_str()?)?,
+        ("corpus", [folder]) => Some(Command::Corpus {
             folder: PathBuf::from(folder),
         }),
         ("compare", [seed, count, folder]) => Some(Command::Compare {
@@ -153,9 +150,9 @@ fn perform(command: &Command) -> io::Result<ExitCode> {
                 )?;
             }
         }
-        Command::Corpus { kind, folder } => {
+        Command::Corpus { folder } => {
             std::fs::create_dir_all(folder)?;
-            let made = Corpus::of(*kind);
+            let made = Corpus::whole();
             std::fs::write(folder.join("corpus"), made.entries)?;
             std::fs::write(folder.join("expected"), made.expected)?;
         }

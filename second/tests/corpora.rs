@@ -1,15 +1,18 @@
-//! The corpora: taken apart again after README, asked anew, and compared with
-//! what is committed of them.
+//! The corpus: taken apart again after README, asked anew, and compared with
+//! what is committed of it.
 
 use std::collections::{BTreeMap, BTreeSet};
 use std::path::Path;
 use std::sync::OnceLock;
 
-use second::case::{self, LONGEST_FILE};
+use second::case::{self, Case, LONGEST_FILE};
+use second::checks::Product;
 use second::corpus::{Corpus, Kind};
 use second::judge::{self, Explanation, Listing, Rooms};
 use second::known::hub_case;
-use second::{checks, replay, Slips};
+use second::memory::Memory;
+use second::net::ProductMarking;
+use second::{checks, replay, Refusal, Slips};
 
 /// Made once for all tests here.
 fn corpus(kind: Kind) -> &'static Corpus {
@@ -33,6 +36,9 @@ enum Part {
     Bytes(Vec<u8>),
 }
 use Part::{Bytes, Number};
+
+/// How many bytes a case in memory has, after README.
+const IN_MEMORY: usize = 2_153;
 
 struct Entries {
     rest: &'static [u8],
@@ -59,19 +65,24 @@ impl Iterator for Entries {
         if self.rest.is_empty() {
             return None;
         }
-        // A number of bytes for a number, 0 for bytes with a length.
+        assert_eq!(self.number(1), usize::from(self.kind.byte()));
+        // A number of bytes for a number, 0 for bytes with a length, and the size of
+        // a case in memory for one.
         let widths: &[usize] = match self.kind {
-            Kind::Files | Kind::Checks => &[0],
+            Kind::Files => &[0],
+            Kind::Checks => &[0, 0],
             Kind::Verdicts => &[2, 2, 3, 0],
-            Kind::Listings => &[3, 1, 0, 2, 3, 0],
+            Kind::Listings => &[3, 1, 2, 3, 0, 0],
             Kind::Replays => &[2, 0, 0],
+            Kind::Writes => &[2, 0, IN_MEMORY],
         };
-        let part = |width: &usize| match width {
+        let part = |width: &usize| match *width {
             0 => {
                 let length = self.number(3);
                 Bytes(self.take(length).to_vec())
             }
-            width => Number(self.number(*width)),
+            IN_MEMORY => Bytes(self.take(IN_MEMORY).to_vec()),
+            width => Number(self.number(width)),
         };
         Some(widths.iter().map(part).collect())
     }
@@ -92,8 +103,11 @@ fn answer(kind: Kind, entry: &[Part], slips: &Slips) -> String {
                 format!("same {}", file.len())
             })
         }
-        (Kind::Checks, [Bytes(file)]) => checks::up_to_nine(file, slips)
-            .map(|(_, product)| format!("accepted {}", product.markings.len())),
+        (Kind::Checks, [Bytes(file), Bytes(table)]) => {
+            let checked = checks::up_to_nine(file, slips);
+            assert!(*slips != Slips::default() || table_is_of(table, &checked));
+            checked.map(|(_, product)| format!("accepted {}", product.markings.len()))
+        }
         (Kind::Verdicts, [Number(matching), Number(other), Number(work), Bytes(file)]) => {
             let rooms = Rooms {
                 work: *work,
@@ -110,7 +124,7 @@ fn answer(kind: Kind, entry: &[Part], slips: &Slips) -> String {
         }
         (
             Kind::Listings,
-            [Number(limit), Number(asked), Bytes(given), Number(room), Number(work), Bytes(file)],
+            [Number(limit), Number(asked), Number(room), Number(work), Bytes(given), Bytes(file)],
         ) => {
             assert!(*asked == 1 || *asked == 0 && given.is_empty());
             let after = (*asked == 1).then_some(given.as_slice());
@@ -142,9 +156,36 @@ fn answer(kind: Kind, entry: &[Part], slips: &Slips) -> String {
                 )
             })
         }
+        (Kind::Writes, [Number(room), Bytes(file), Bytes(memory)]) => {
+            let written = Memory::from_bytes(memory).write(*room);
+            assert_eq!(written.as_ref().unwrap_or(&vec![]), file);
+            written.map(|written| {
+                let read = case::read(&written).expect("a good file");
+                assert_eq!(&Memory::of(&read).bytes(), memory);
+                format!("written {}", written.len())
+            })
+        }
         other => panic!("no entry of its kind: {other:?}"),
     };
     said.unwrap_or_else(|refusal| refusal.to_string())
+}
+
+/// Whether a table has a row for each reachable product marking, with 16 system
+/// places and 8 pattern places, and they rise; no row where the case is refused.
+fn table_is_of(table: &[u8], checked: &Result<(Case, Product), Refusal>) -> bool {
+    let rows: Vec<&[u8]> = table.chunks(24).collect();
+    let Ok((case, product)) = checked else {
+        return rows.is_empty();
+    };
+    let places = case.system.first_tokens.len();
+    let tokens = |bytes: &[u8]| bytes.iter().map(|byte| u32::from(*byte)).collect();
+    let marking = |row: &[u8]| ProductMarking {
+        system: tokens(&row[..places]),
+        pattern: tokens(&row[16..][..case.pattern.first_tokens.len()]),
+    };
+    let listed: BTreeSet<ProductMarking> = rows.iter().map(|row| marking(row)).collect();
+    let reached: BTreeSet<ProductMarking> = product.markings.iter().cloned().collect();
+    rows.is_sorted() && rows.len() == product.markings.len() && listed == reached
 }
 
 fn spaced<T: ToString>(numbers: &[T]) -> String {
@@ -220,6 +261,7 @@ fn every_outcome_occurs() {
                 ],
                 &[2, 3, 4, 5, 6, 7],
             ),
+            Kind::Writes => (&["written"], &[11, 14]),
         };
         let refusals = refusals.iter().map(|number| format!("refused {number}"));
         let named: BTreeSet<String> = words
@@ -309,24 +351,16 @@ fn each_slip_shows() {
     }
 }
 
-/// A corpus that is kept beside the proved work is what this program makes.
+/// The corpus that is kept beside the proved work is what this program makes.
 #[test]
-fn committed_corpora_have_not_drifted() {
-    for kind in Kind::ALL {
-        let beside = format!("../crates/corpus_{}", kind.name());
-        let folder = Path::new(env!("CARGO_MANIFEST_DIR")).join(beside);
-        if !folder.exists() {
-            continue;
-        }
-        let read = |name: &str| std::fs::read(folder.join(name)).expect("a committed file");
-        let says = "make it anew with `second corpus`";
-        assert!(
-            read("data/corpus") == corpus(kind).entries,
-            "{kind:?}: {says}"
-        );
-        assert!(
-            read("stdout") == corpus(kind).expected.as_bytes(),
-            "{kind:?}: {says}"
-        );
+fn the_committed_corpus_has_not_drifted() {
+    let folder = Path::new(env!("CARGO_MANIFEST_DIR")).join("../crates/corpora");
+    if !folder.exists() {
+        return;
     }
+    let read = |name: &str| std::fs::read(folder.join(name)).expect("a committed file");
+    let whole = Corpus::whole();
+    let says = "make it anew with `second corpus`";
+    assert!(read("data/corpus") == whole.entries, "{says}");
+    assert!(read("stdout") == whole.expected.as_bytes(), "{says}");
 }

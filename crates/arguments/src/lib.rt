@@ -8,6 +8,16 @@ pub enum Spelled {
     Nothing,
 }
 
+// The first and the last digit in ASCII, and how many there are.
+const ZERO: usize = 48;
+
+const NINE: usize = 57;
+
+const TEN: usize = 10;
+
+// No more digits of an argument are looked at.
+const LONGEST: usize = 32;
+
 // A byte as a number.
 fn wide(x: u8) -> usize
     ensures { λ r. ⌜ r ≡ x ⌝ }
@@ -26,30 +36,31 @@ fn number(digits: &[u8], most: usize) -> Spelled
     let mut i: usize = 0;
     while i < digits.len() {
         let byte = wide(digits[i]);
-        if byte < 48 {
+        if byte < ZERO {
             return Spelled::Nothing;
         }
-        if 57 < byte {
+        if NINE < byte {
             return Spelled::Nothing;
         }
-        let digit = byte - 48;
+        let digit = byte - ZERO;
         if most < digit {
             return Spelled::Nothing;
         }
-        if (most - digit) / 10 < value {
+        if (most - digit) / TEN < value {
             return Spelled::Nothing;
         }
-        value = value * 10 + digit;
+        value = value * TEN + digit;
         i += 1;
     }
     Spelled::Number(value)
 }
 
-// The number that argument i spells, if there is that argument, in at most 32 digits, and it spells one that is at most `most`.
+// The number that argument i spells, if there is that argument, in at most 32 digits, and it spells one that is at most `most`. What the
+// arguments are no contract can say; `number` is proved to read them as `spelled` does.
 pub fn argument(i: usize, most: usize) -> Spelled
     ensures { λ r. ⌜ NumberSays most r ⌝ }
 {
-    let mut digits = [0u8; 32];
+    let mut digits = [0u8; LONGEST];
     let n = os::arg(i, &mut digits);
     number(&digits[..n], most)
 }

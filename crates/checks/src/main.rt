@@ -1,20 +1,17 @@
 // checks: reads a case file on standard input and prints the first of the refusals 2 to 9 that speaks, or `accepted` and the number of
 // reachable product markings. It keeps one byte more than the longest file has.
 use admit::Answer;
+use engine::plan::PLAN;
 use libc::STDIN_FILENO;
-use rack::Outcome;
+use rack::LONGEST_FILE;
+use rack::WORK_ROOM;
 
 fn main() {
-    let mut file = [0u8; 2497];
-    let mut work = [0u8; 57344];
+    let mut file = [0u8; LONGEST_FILE + 1];
+    let mut plan = [0u8; PLAN];
+    let mut work = [0u8; WORK_ROOM];
     let n = io::read_full(STDIN_FILENO, &mut file);
-    let reading = reader::read_case(&file[..n]);
-    let outcome = reading.outcome;
-    if let Outcome::Refused(number, place) = outcome {
-        report::refused(number, place);
-        return;
-    }
-    let answer = admit::check(reading.case, &mut work);
+    let answer = admit::open(&file[..n], WORK_ROOM, &mut plan, &mut work);
     match answer {
         Answer::Table(rows) => {
             report::text(b"accepted ");

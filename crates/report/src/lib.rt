@@ -4,7 +4,15 @@ use rack::Net;
 use rack::PatternNet;
 use rack::Replayed;
 use rack::Stop;
+ghost use mathlib.Core.Path.{_≡_};
 ghost use Prim.Native.Nat.{_≤_};
+ghost use lib.ListN.{take};
+
+// How many bytes of a run are put together before they are written.
+const PIECE: usize = 256;
+
+// No number has more decimal digits.
+const MOST_DIGITS: usize = 20;
 
 // A byte as a number.
 fn wide(x: u8) -> usize {
@@ -22,7 +30,9 @@ pub fn text(s: &[u8]) {
 }
 
 // The first n bytes of a slice, or all of it where it has fewer.
-pub fn first(bytes: &[u8], n: usize) -> &[u8] {
+pub fn first(bytes: &[u8], n: usize) -> &[u8]
+    ensures { λ r. ⌜ now r ≡ take n (now (bytes .entry)) ⌝ }
+{
     if bytes.len() < n {
         return bytes;
     }
@@ -50,11 +60,11 @@ pub fn refused(number_of: u8, beside: usize) {
 
 // Puts a byte behind the first `used` ones; where there is no room for it, those are written and it becomes the first. Answers how many
 // there are then.
-fn push(out: &mut [u8; 256], used: usize, byte: u8) -> usize
+fn push(out: &mut [u8; PIECE], used: usize, byte: u8) -> usize
     requires { ⌜ used ≤ 256 ⌝ }
     ensures { λ r. ⌜ r ≤ 256 ⌝ }
 {
-    if used == 256 {
+    if used == PIECE {
         text(&out[..]);
         out[0] = byte;
         return 1;
@@ -64,7 +74,7 @@ fn push(out: &mut [u8; 256], used: usize, byte: u8) -> usize
 }
 
 // The same for one byte after the other.
-fn push_all(out: &mut [u8; 256], used: usize, bytes: &[u8]) -> usize
+fn push_all(out: &mut [u8; PIECE], used: usize, bytes: &[u8]) -> usize
     requires { ⌜ used ≤ 256 ⌝ }
     ensures { λ r. ⌜ r ≤ 256 ⌝ }
 {
@@ -78,11 +88,11 @@ fn push_all(out: &mut [u8; 256], used: usize, bytes: &[u8]) -> usize
 }
 
 // The same for a blank and the digits of a number.
-fn spell(out: &mut [u8; 256], used: usize, number_of: u8) -> usize
+fn spell(out: &mut [u8; PIECE], used: usize, number_of: u8) -> usize
     requires { ⌜ used ≤ 256 ⌝ }
     ensures { λ r. ⌜ r ≤ 256 ⌝ }
 {
-    let mut digits = [0u8; 20];
+    let mut digits = [0u8; MOST_DIGITS];
     let count = io::decimal(number_of as u64, &mut digits);
     let end = push(out, used, b' ');
     push_all(out, end, &digits[..count])
@@ -90,7 +100,7 @@ fn spell(out: &mut [u8; 256], used: usize, number_of: u8) -> usize
 
 // Numbers, each with a blank before it. They are put together in the lent bytes, and written when these are full: a long run takes few
 // writes.
-fn spelled(numbers: &[u8], out: &mut [u8; 256]) {
+fn spelled(numbers: &[u8], out: &mut [u8; PIECE]) {
     let mut used: usize = 0;
     let mut i: usize = 0;
     while i < numbers.len() {
@@ -103,7 +113,7 @@ fn spelled(numbers: &[u8], out: &mut [u8; 256]) {
 // A run without a line end: its length, then its numbers.
 pub fn run(numbers: &[u8]) {
     number(numbers.len());
-    let mut out = [0u8; 256];
+    let mut out = [0u8; PIECE];
     spelled(numbers, &mut out);
 }
 

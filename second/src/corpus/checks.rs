@@ -1,10 +1,11 @@
-//! Files for the checks 2 to 9.
+//! Files for the checks 2 to 9, each with the table that an accepted one has.
 
 use super::faults::{fault_sets, with_faults};
 use super::sides::{self, BothSides};
 use super::{meanings, with_length, Entry};
-use crate::case;
+use crate::case::{self, MOST_PATTERN_PLACES, MOST_SYSTEM_PLACES};
 use crate::known::{all_limits, hub_case, longest};
+use crate::net::{Marking, ProductMarking};
 use crate::{checks, make, Slips};
 
 const SEED: u64 = 0x6368_6563;
@@ -14,7 +15,7 @@ pub struct Checked(Vec<u8>);
 
 impl Entry for Checked {
     fn bytes(&self) -> Vec<u8> {
-        with_length(&self.0)
+        [with_length(&self.0), with_length(&table(&self.0))].concat()
     }
 
     fn answer(&self) -> String {
@@ -23,6 +24,28 @@ impl Entry for Checked {
             Ok((_, product)) => format!("accepted {}", product.markings.len()),
         }
     }
+}
+
+/// The reachable product markings in ascending order of their bytes, a row of 24
+/// bytes for each: the tokens of 16 system places, then those of 8 pattern
+/// places, with zeros for places that the case has not. Empty for a refusal.
+fn table(file: &[u8]) -> Vec<u8> {
+    let Ok((_, product)) = checks::up_to_nine(file, &Slips::default()) else {
+        return Vec::new();
+    };
+    let row = |marking: &ProductMarking| {
+        let system = padded(&marking.system, MOST_SYSTEM_PLACES);
+        [system, padded(&marking.pattern, MOST_PATTERN_PLACES)].concat()
+    };
+    let mut rows: Vec<Vec<u8>> = product.markings.iter().map(row).collect();
+    rows.sort();
+    rows.concat()
+}
+
+fn padded(marking: &Marking, places: u8) -> Vec<u8> {
+    let mut bytes: Vec<u8> = marking.iter().map(|tokens| *tokens as u8).collect();
+    bytes.resize(usize::from(places), 0);
+    bytes
 }
 
 pub fn entries() -> Vec<Checked> {

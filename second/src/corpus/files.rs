@@ -48,7 +48,7 @@ pub fn entries() -> Vec<File> {
 }
 
 /// The hub with several of each record of which there may be several.
-fn every_record() -> Case {
+pub fn every_record() -> Case {
     let mut case = hub(&[0, 3, 3, 7]);
     case.system.transitions.push(moves(7, 2, 2));
     case.pairs = pairs(&[(0, 3), (2, 1), (2, 4)]);

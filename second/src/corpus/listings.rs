@@ -48,9 +48,9 @@ impl Entry for Listed {
     fn bytes(&self) -> Vec<u8> {
         let mut bytes = number::<3>(self.limit).to_vec();
         bytes.push(u8::from(self.after.is_some()));
-        bytes.extend(with_length(self.after.as_deref().unwrap_or(&[])));
         bytes.extend(number::<2>(self.run_room));
         bytes.extend(number::<3>(self.work_room));
+        bytes.extend(with_length(self.after.as_deref().unwrap_or(&[])));
         bytes.extend(with_length(&self.file));
         bytes
     }

@@ -1,6 +1,7 @@
-//! Corpora: many entries in one file, and this program's answers line by line in
-//! another, so that any program which answers the same questions can be compared
-//! with this one byte for byte. Nothing in them is left to chance.
+//! The corpus: many entries in one file, each with a byte for its kind before it,
+//! and this program's answers line by line in another, so that any program which
+//! answers the same questions can be compared with this one byte for byte.
+//! Nothing in it is left to chance.
 
 mod checks;
 pub mod faults;
@@ -10,6 +11,7 @@ mod meanings;
 mod replays;
 pub mod sides;
 mod verdicts;
+mod writes;
 
 #[derive(Clone, Copy, Debug, PartialEq, Eq)]
 pub enum Kind {
@@ -18,15 +20,17 @@ pub enum Kind {
     Verdicts,
     Listings,
     Replays,
+    Writes,
 }
 
 impl Kind {
-    pub const ALL: [Kind; 5] = [
+    pub const ALL: [Kind; 6] = [
         Kind::Files,
         Kind::Checks,
         Kind::Verdicts,
         Kind::Listings,
         Kind::Replays,
+        Kind::Writes,
     ];
 
     pub fn name(self) -> &'static str {
@@ -36,11 +40,13 @@ impl Kind {
             Kind::Verdicts => "verdicts",
             Kind::Listings => "listings",
             Kind::Replays => "replays",
+            Kind::Writes => "writes",
         }
     }
 
-    pub fn named(name: &str) -> Option<Kind> {
-        Kind::ALL.into_iter().find(|kind| kind.name() == name)
+    /// The byte that each entry of the kind begins with.
+    pub fn byte(self) -> u8 {
+        self as u8
     }
 }
 
@@ -53,26 +59,39 @@ pub struct Corpus {
 }
 
 impl Corpus {
+    /// The entries of all kinds, one kind after the other.
+    pub fn whole() -> Corpus {
+        let mut all = Corpus::default();
+        for one in Kind::ALL.map(Corpus::of) {
+            all.entries.extend(one.entries);
+            all.expected += &one.expected;
+        }
+        all
+    }
+
     pub fn of(kind: Kind) -> Corpus {
         match kind {
-            Kind::Files => gather(files::entries()),
-            Kind::Checks => gather(checks::entries()),
-            Kind::Verdicts => gather(verdicts::entries()),
-            Kind::Listings => gather(listings::entries()),
-            Kind::Replays => gather(replays::entries()),
+            Kind::Files => gather(kind, files::entries()),
+            Kind::Checks => gather(kind, checks::entries()),
+            Kind::Verdicts => gather(kind, verdicts::entries()),
+            Kind::Listings => gather(kind, listings::entries()),
+            Kind::Replays => gather(kind, replays::entries()),
+            Kind::Writes => gather(kind, writes::entries()),
         }
     }
 }
 
-/// One question: how it stands in the corpus, and what this program answers.
+/// One question: how it stands in the corpus behind the byte for its kind, and
+/// what this program answers.
 trait Entry {
     fn bytes(&self) -> Vec<u8>;
     fn answer(&self) -> String;
 }
 
-fn gather<E: Entry>(entries: Vec<E>) -> Corpus {
+fn gather<E: Entry>(kind: Kind, entries: Vec<E>) -> Corpus {
     let mut corpus = Corpus::default();
     for entry in entries {
+        corpus.entries.push(kind.byte());
         corpus.entries.extend(entry.bytes());
         corpus.expected += &entry.answer();
         corpus.expected.push('\n');

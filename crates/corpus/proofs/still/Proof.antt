@@ -1,7 +1,9 @@
--- `corpus::still` is safe and ends. Assumes nothing.
-use Prim.Native.Nat.{_-_}
+-- `corpus::still` meets its contract. The loop's invariant: every byte from `from` up to i is v. Assumes nothing.
+use Prim.Native.Nat.{ℕ, _-_, _≤_, _<_}
 use mathlib.Core.Path.{_≡_}
-use lib.ListN.{length}
+use lib.ListN.{length, getD}
+use Rattle.walks.proofs.Says.{says-yes, says-no}
+use borrow.Author.Count.{below-more}
 use borrow.Author.Needs.{needs}
 use native.Mathlib.Omega.{arith}
 use Rattle.corpus.proofs.still.Statement.{statement}
@@ -10,7 +12,7 @@ use Rattle.corpus.proofs.still.Reads as reads
 use Rattle.corpus.proofs.still.Lts as lts
 
 abbrev Inv-loop : tie.InvT-loop
-Inv-loop room from v i₀ i = Unit {0}
+Inv-loop room from v i₀ i = (from ≤ i) × ((k : ℕ) → k < i → from ≤ k → getD room k 0 ≡ v)
 
 abbrev μ-loop : tie.MeasureT-loop
 μ-loop room from v i₀ i = length room - i
@@ -22,7 +24,9 @@ shared-slice-read-if1 : tie.Need-shared-slice-read-if1 Inv-loop μ-loop
 shared-slice-read-if1 c = search needs
 
 returns : tie.Need-returns Inv-loop μ-loop
-returns c = search needs
+returns c =
+    let l = c .before .before .before .loop in
+    says-no (λ h. c .if1 .taken (h .each (l .i) (l .inv .0) (omega arith)))
 
 add-i : tie.Need-add-i Inv-loop μ-loop
 add-i c = search needs
@@ -31,10 +35,14 @@ loop-less : tie.Need-loop-less Inv-loop μ-loop
 loop-less c = search needs
 
 loop-again : tie.Need-loop-again Inv-loop μ-loop
-loop-again c = search needs
+loop-again c =
+    let l = c .before .before .before .loop in
+    (omega arith, below-more _ _ (l .inv .1) (λ _. c .if1 .left))
 
 returns-2 : tie.Need-returns-2 Inv-loop μ-loop
-returns-2 c = search needs
+returns-2 c =
+    let l = c .before .loop in
+    says-yes (record { each = λ k from-k short. l .inv .1 k (omega arith) from-k })
 
 pub still-spec : {M : Type 1} → statement M
 still-spec =

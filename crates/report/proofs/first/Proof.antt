@@ -1,6 +1,6 @@
--- `report::first` hands back a part that is there. Assumes nothing.
+-- `report::first` meets its contract: a slice with fewer than n bytes is all of its first n. Assumes nothing.
 use mathlib.Core.Path.{sym}
-use lib.Seq.{length-take-le}
+use lib.Seq.{length-take-le, take-all}
 use native.Mathlib.Omega.{arith}
 use borrow.Author.Needs.{needs}
 use Rattle.report.proofs.first.Statement.{statement}
@@ -9,7 +9,7 @@ use Rattle.report.proofs.first.Reads as reads
 use Rattle.report.proofs.first.Lts as lts
 
 returns : tie.Need-returns
-returns c = search needs
+returns c = sym (take-all (c .before .args .n) (c .before .args .bytes .now) (omega arith))
 
 slice-aggregate-result : tie.Need-slice-aggregate-result
 slice-aggregate-result c = sym (length-take-le (c .before .before .args .n) (c .before .before .args .bytes .now) (search needs))
