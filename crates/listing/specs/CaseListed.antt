@@ -11,7 +11,7 @@ use Rattle.rack.specs.Listing.{Asked, NextIs, EndIs}
 use Rattle.rack.specs.ListingOutcome.{limitMost, GivenBad}
 use Rattle.rack.specs.Outcome.{holding, zeroed}
 use Rattle.rack.specs.declared.Case.{Case}
-use Rattle.search.specs.Found.{Ready}
+use Rattle.steps.specs.Walkable.{Ready}
 use Rattle.rack.specs.declared.Listed.{Listed}
 use Rattle.rack.specs.declared.Listed.the-variants.{Matching, Other, End, Refused}
 

@@ -1,5 +1,6 @@
 // Giving a run that has been found, and the test of a given run.
 use rack::LIMIT_MOST;
+use engine::wide;
 use rack::Listed;
 use rack::REFUSED_LENT_ROOM;
 use seek::Sought;
@@ -59,7 +60,7 @@ pub fn give_and_clear(
 }
 
 // Whether a given run is within the limit and holds numbers of transitions only.
-pub fn is_good(given: &[u8], limit: usize, transitions: u8) -> bool
+pub fn is_good(given: &[u8], limit: usize, transitions: usize) -> bool
     ensures { λ r. ⌜ Says r (GoodRun (now (given .entry)) limit transitions) ⌝ }
 {
     if limit < given.len() {
@@ -67,7 +68,7 @@ pub fn is_good(given: &[u8], limit: usize, transitions: u8) -> bool
     }
     let mut i: usize = 0;
     while i < given.len() {
-        if transitions <= given[i] {
+        if transitions <= wide(given[i]) {
             return false;
         }
         i += 1;

@@ -1,13 +1,15 @@
-// The listing of explanations: the calls `first` and `next`, over every file and every length of room. They read the file and admit its case (checks 1, 12
+// The listing of explanations: the calls `first` and `next`, over every file and every length of room. They open the file (checks 1, 12
 // and 2 to 9), look at the given run (13), work out what can still be finished in so many firings, and give the next explanation by a depth-first search.
 // What their answers mean stands in rack's specs/ListingOutcome.antt.
 use crate::giving::give_and_clear;
 use crate::giving::is_good;
 use admit::Answer;
-use rack::Case;
+use engine::plan::PLAN;
+use engine::plan::Plan;
+use engine::plan::events;
+use engine::plan::transitions;
 use rack::LIMIT_MOST;
 use rack::Listed;
-use rack::Outcome;
 use rack::REFUSED_GIVEN_RUN;
 use rack::REFUSED_LIMIT;
 use rack::REFUSED_WORK_ROOM;
@@ -20,17 +22,11 @@ ghost use Rattle.rack.specs.Listing.{from-start, after};
 ghost use Rattle.rack.specs.Outcome.{zeroed};
 ghost use Rattle.rack.specs.ListingOutcome.{ListingIs};
 ghost use Rattle.rack.specs.declared.Listed.the-variants.{Refused};
-ghost use Rattle.listing.specs.Barred.{Barred};
+ghost use Rattle.engine.specs.Plan.{planned, planSize};
+ghost use Rattle.listing.specs.Barred.{Barred, BeginSays};
 ghost use Rattle.listing.specs.CaseListed.{Listing, ListedSays, LogSays};
 
 mod giving; // giving.rt: giving a run that has been found
-
-// A byte as a count.
-fn wide(x: u8) -> usize
-    ensures { λ r. ⌜ r ≡ x ⌝ }
-{
-    x as usize
-}
 
 // The checks that look at no file, 1 and 12, by the work room's length and the limit: the number of the first that speaks, or 0.
 fn barred(bytes: usize, limit: usize) -> u8
@@ -54,54 +50,72 @@ fn refuse(work: &mut [u8], number: u8, beside: usize) -> Listed
     Listed::Refused(number, beside)
 }
 
-// Whether the log is longer than the limit: then nothing within the limit explains it.
-fn log_too_long(c: Case, limit: usize) -> bool
-    requires { ⌜ length (logOf c) ≡ c .log .count ⌝ }
-    ensures { λ r. ⌜ LogSays c limit r ⌝ }
+// What a listing begins with: the checks 1, 12 and 2 to 9. Where none speaks, the plan is that of the file's case, and the first rows of the work
+// room are its reachable product markings; a refusal leaves the work room all zeros.
+fn begin(file: &[u8], limit: usize, plan: &mut Plan, work: &mut [u8]) -> Answer
+    requires { ⌜ length (now plan) ≡ planSize ⌝ }
+    ensures { λ r. ⌜ BeginSays (now (file .entry)) limit (now (work .entry)) (now (plan .exit)) (now (work .exit)) r ⌝ }
 {
-    let log = c.log;
-    if limit < wide(log.count) {
+    let early = barred(work.len(), limit);
+    if early != 0 {
+        room::clear(work);
+        return Answer::Refused(early, 0);
+    }
+    admit::open(file, WORK_ROOM, plan, work)
+}
+
+// Whether the log is longer than the limit: then nothing within the limit explains it.
+fn log_too_long(plan: &Plan, limit: usize) -> bool
+    requires { ⌜ length (logOf (planned (now plan))) ≡ planned (now plan) .log .count ⌝ }
+    ensures { λ r. ⌜ LogSays (planned (now (plan .entry))) limit r ⌝ }
+{
+    if limit < events(plan) {
         return true;
     }
     false
 }
 
 // The first explanation of a case that passes the checks 2 to 9, whose reachable markings are the first rows of the work room.
-fn first_of(c: Case, rows: usize, limit: usize, room: &mut [u8], work: &mut [u8]) -> Listed
-    requires { ⌜ Listing c (now work) rows limit ⌝ }
-    ensures { λ r. ⌜ ListedSays c limit from-start (now (room .entry)) (now (work .entry)) r (now (room .exit)) (now (work .exit)) ⌝ }
+fn first_of<'a, 'o, 'w>(
+    plan: &'a Plan,
+    rows: usize,
+    limit: usize,
+    room: &'o mut [u8],
+    work: &'w mut [u8],
+) -> Listed
+    requires { ⌜ Listing (planned (now plan)) (now work) rows limit ⌝ }
+    ensures { λ r. ⌜ ListedSays (planned (now (plan .entry))) limit from-start (now (room .entry)) (now (work .entry)) r (now (room .exit)) (now (work .exit)) ⌝ }
 {
     let mut run = [0u8; LIMIT_MOST];
-    if log_too_long(c, limit) {
+    if log_too_long(plan, limit) {
         return give_and_clear(Sought::Nothing, &run, room, work);
     }
-    ahead::fill(c, work, rows, limit);
-    let sought = seek::first(c, work, rows, limit, &mut run);
+    ahead::fill(plan, work, rows, limit);
+    let sought = seek::first(plan, work, rows, limit, &mut run);
     give_and_clear(sought, &run, room, work)
 }
 
 // The first explanation of such a case that comes later than the given run.
-fn next_of(
-    c: Case,
+fn next_of<'a, 'g, 'o, 'w>(
+    plan: &'a Plan,
     rows: usize,
     limit: usize,
-    given: &[u8],
-    room: &mut [u8],
-    work: &mut [u8],
+    given: &'g [u8],
+    room: &'o mut [u8],
+    work: &'w mut [u8],
 ) -> Listed
-    requires { ⌜ Listing c (now work) rows limit ⌝ }
-    ensures { λ r. ⌜ ListedSays c limit (after (now (given .entry))) (now (room .entry)) (now (work .entry)) r (now (room .exit)) (now (work .exit)) ⌝ }
+    requires { ⌜ Listing (planned (now plan)) (now work) rows limit ⌝ }
+    ensures { λ r. ⌜ ListedSays (planned (now (plan .entry))) limit (after (now (given .entry))) (now (room .entry)) (now (work .entry)) r (now (room .exit)) (now (work .exit)) ⌝ }
 {
-    let arcs = c.arcs;
-    if !is_good(given, limit, arcs.count) {
+    if !is_good(given, limit, transitions(plan)) {
         return refuse(work, REFUSED_GIVEN_RUN, 0);
     }
     let mut run = [0u8; LIMIT_MOST];
-    if log_too_long(c, limit) {
+    if log_too_long(plan, limit) {
         return give_and_clear(Sought::Nothing, &run, room, work);
     }
-    ahead::fill(c, work, rows, limit);
-    let sought = seek::next(c, work, rows, limit, given, &mut run);
+    ahead::fill(plan, work, rows, limit);
+    let sought = seek::next(plan, work, rows, limit, given, &mut run);
     give_and_clear(sought, &run, room, work)
 }
 
@@ -110,19 +124,11 @@ fn next_of(
 pub fn first(file: &[u8], limit: usize, room: &mut [u8], work: &mut [u8]) -> Listed
     ensures { λ r. ⌜ ListingIs (now (file .entry)) limit from-start (now (room .entry)) (now (work .entry)) r (now (room .exit)) (now (work .exit)) ⌝ }
 {
-    let early = barred(work.len(), limit);
-    if early != 0 {
-        return refuse(work, early, 0);
-    }
-    let reading = reader::read_case(file);
-    let outcome = reading.outcome;
-    if let Outcome::Refused(number, place) = outcome {
-        return refuse(work, number, place);
-    }
-    let answer = admit::check(reading.case, work);
+    let mut plan = [0u8; PLAN];
+    let answer = begin(file, limit, &mut plan, work);
     match answer {
-        Answer::Refused(number, beside) => refuse(work, number, beside),
-        Answer::Table(rows) => first_of(reading.case, rows, limit, room, work),
+        Answer::Refused(number, beside) => Listed::Refused(number, beside),
+        Answer::Table(rows) => first_of(&plan, rows, limit, room, work),
     }
 }
 
@@ -130,18 +136,10 @@ pub fn first(file: &[u8], limit: usize, room: &mut [u8], work: &mut [u8]) -> Lis
 pub fn next(file: &[u8], limit: usize, given: &[u8], room: &mut [u8], work: &mut [u8]) -> Listed
     ensures { λ r. ⌜ ListingIs (now (file .entry)) limit (after (now (given .entry))) (now (room .entry)) (now (work .entry)) r (now (room .exit)) (now (work .exit)) ⌝ }
 {
-    let early = barred(work.len(), limit);
-    if early != 0 {
-        return refuse(work, early, 0);
-    }
-    let reading = reader::read_case(file);
-    let outcome = reading.outcome;
-    if let Outcome::Refused(number, place) = outcome {
-        return refuse(work, number, place);
-    }
-    let answer = admit::check(reading.case, work);
+    let mut plan = [0u8; PLAN];
+    let answer = begin(file, limit, &mut plan, work);
     match answer {
-        Answer::Refused(number, beside) => refuse(work, number, beside),
-        Answer::Table(rows) => next_of(reading.case, rows, limit, given, room, work),
+        Answer::Refused(number, beside) => Listed::Refused(number, beside),
+        Answer::Table(rows) => next_of(&plan, rows, limit, given, room, work),
     }
 }

@@ -1,7 +1,8 @@
 -- `listing::first_of` lists a case that has been read. Assumes nothing.
 use mathlib.Core.Path.{refl}
 use Rattle.rack.specs.Listing.{from-start}
-use Rattle.search.proofs.LentParts.{log-long}
+use Rattle.engine.specs.Plan.{planned}
+use Rattle.steps.proofs.NodeLaws.{log-long}
 use Rattle.listing.specs.CaseListed.{shown}
 use Rattle.listing.proofs.Cases.{end-shown, seeking, found-short, found-shown, from-start-good, lists}
 use borrow.Author.Needs.{needs}
@@ -27,7 +28,7 @@ returns c =
     let at-log-too-long = at-if1 .before in
     let x = at-log-too-long .before .before .before .args in
     lists _ _
-    (shown (from-start-good (x .c) (x .limit))
+    (shown (from-start-good (planned (x .plan .now)) (x .limit))
     (end-shown (at-log-too-long .log-too-long .ensures .ends (at-if1 .if1 .taken) from-start) (at-give-and-clear .give-and-clear .ensures .1 .is)))
     (at-give-and-clear .give-and-clear .ensures .0) refl
 
@@ -54,7 +55,7 @@ give-and-clear-requires-2 c κs =
     let at-first = c .before .before .before .before in
     let entry = at-first .before .before .before .before .before .before .before .before .before .before .before in
     let x = entry .args in
-    found-short (x .c) (x .limit) from-start _ _ (x .room .now) _ (entry .pre .low) (at-first .first .ensures)
+    found-short (planned (x .plan .now)) (x .limit) from-start _ _ (x .room .now) _ (entry .pre .low) (at-first .first .ensures)
 
 same-length-3 : tie.Need-same-length-3
 same-length-3 c = search needs
@@ -69,8 +70,8 @@ returns-2 c =
     let at-fill = at-first .before .before .before .before .before in
     let x = at-fill .before .before .before .before .before .before .args in
     lists _ _
-    (shown (from-start-good (x .c) (x .limit))
-    (found-shown (x .c) (x .limit) from-start _ _ (x .room .now) _ _ _ (at-first .first .ensures) (at-give-and-clear2 .give-and-clear2 .ensures .1)))
+    (shown (from-start-good (planned (x .plan .now)) (x .limit))
+    (found-shown (planned (x .plan .now)) (x .limit) from-start _ _ (x .room .now) _ _ _ (at-first .first .ensures) (at-give-and-clear2 .give-and-clear2 .ensures .1)))
     (at-give-and-clear2 .give-and-clear2 .ensures .0) (at-fill .fill .ensures .long)
 
 pub first-of-spec : {M : Type 1} → statement M

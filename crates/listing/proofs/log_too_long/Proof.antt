@@ -5,14 +5,14 @@ use borrow.Author.Needs.{needs}
 use Rattle.listing.proofs.log_too_long.Statement.{statement}
 use Rattle.listing.proofs.log_too_long.Tie as tie
 
-wide-requires : tie.Need-wide-requires
-wide-requires c κs = search needs
+events-requires : tie.Need-events-requires
+events-requires c κs = search needs
 
 returns : tie.Need-returns
-returns c = past-limit (c .before .before .before .pre) (omega (arith, c .before .wide .ensures, c .if1 .taken))
+returns c = past-limit (@start .pre) (omega (arith, @events .events .ensures, @if1 .if1 .taken))
 
 returns-2 : tie.Need-returns-2
-returns-2 c = within-limit (omega (arith, c .before .wide .ensures, c .if1 .left))
+returns-2 c = within-limit (omega (arith, @events .events .ensures, @if1 .if1 .left))
 
 pub log-too-long-spec : {M : Type 1} → statement M
-log-too-long-spec = tie.close (tie.spec wide-requires returns returns-2)
+log-too-long-spec = tie.close (tie.spec events-requires returns returns-2)

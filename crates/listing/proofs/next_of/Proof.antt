@@ -3,7 +3,8 @@ use mathlib.Core.Path.{refl, sym, _∙_}
 use mathlib.Core.Bool.{true≢false}
 use borrow.Author.Tests.{not-true, not-false}
 use Rattle.rack.specs.Listing.{after}
-use Rattle.search.proofs.LentParts.{log-long}
+use Rattle.engine.specs.Plan.{planned}
+use Rattle.steps.proofs.NodeLaws.{log-long}
 use Rattle.listing.specs.CaseListed.{bad, shown}
 use Rattle.listing.proofs.Cases.{end-shown, seeking, found-short, found-shown, good-given, good-not-bad, not-good-bad, lists}
 use borrow.Author.Needs.{needs}
@@ -28,7 +29,7 @@ returns c =
     rw (at-refuse .refuse .ensures .0)
     (lists _ _
     (bad
-    (not-good-bad (x .c) (x .limit) (x .given .now) (λ g. true≢false (sym (at-is-good .is-good .ensures .complete g) ∙ not-true _ (at-if1 .if1 .taken)))))
+    (not-good-bad (planned (x .plan .now)) (x .limit) (x .given .now) (λ g. true≢false (sym (at-is-good .is-good .ensures .complete g) ∙ not-true _ (at-if1 .if1 .taken)))))
     (at-refuse .refuse .ensures .1) refl)
 
 log-too-long-requires : tie.Need-log-too-long-requires
@@ -52,7 +53,7 @@ returns-2 c =
     let at-is-good = at-if1 .before in
     let x = at-is-good .before .before .before .before .before .args in
     lists _ _
-    (shown (good-not-bad (x .c) (x .limit) (x .given .now) (at-is-good .is-good .ensures .sound (not-false _ (at-if1 .if1 .left))))
+    (shown (good-not-bad (planned (x .plan .now)) (x .limit) (x .given .now) (at-is-good .is-good .ensures .sound (not-false _ (at-if1 .if1 .left))))
     (end-shown (at-log-too-long .log-too-long .ensures .ends (at-if2 .if2 .taken) (after (x .given .now)))
     (at-give-and-clear .give-and-clear .ensures .1 .is))) (at-give-and-clear .give-and-clear .ensures .0) refl
 
@@ -76,7 +77,7 @@ next-requires c κs =
     let entry = at-is-good .before .before .before .before .before in
     let x = entry .args in (
       seeking (entry .pre) (at-fill .fill .ensures) (at-log-too-long .log-too-long .ensures .fits (at-if2 .if2 .left)) _ (search needs),
-      good-given (x .c) (x .limit) (x .given .now) (at-is-good .is-good .ensures .sound (not-false _ (at-if1 .if1 .left))),
+      good-given (planned (x .plan .now)) (x .limit) (x .given .now) (at-is-good .is-good .ensures .sound (not-false _ (at-if1 .if1 .left))),
     )
 
 give-and-clear-requires-2 : tie.Need-give-and-clear-requires-2
@@ -84,7 +85,7 @@ give-and-clear-requires-2 c κs =
     let at-next = c .before .before .before .before in
     let entry = at-next .before .before .before .before .before .before .before .before .before .before .before .before .before .before .before in
     let x = entry .args in
-    found-short (x .c) (x .limit) (after (x .given .now)) _ _ (x .room .now) _ (entry .pre .low) (at-next .next .ensures)
+    found-short (planned (x .plan .now)) (x .limit) (after (x .given .now)) _ _ (x .room .now) _ (entry .pre .low) (at-next .next .ensures)
 
 same-length-4 : tie.Need-same-length-4
 same-length-4 c = search needs
@@ -101,8 +102,8 @@ returns-3 c =
     let at-is-good = at-if1 .before in
     let x = at-is-good .before .before .before .before .before .args in
     lists _ _
-    (shown (good-not-bad (x .c) (x .limit) (x .given .now) (at-is-good .is-good .ensures .sound (not-false _ (at-if1 .if1 .left))))
-    (found-shown (x .c) (x .limit) (after (x .given .now)) _ _ (x .room .now) _ _ _ (at-next .next .ensures)
+    (shown (good-not-bad (planned (x .plan .now)) (x .limit) (x .given .now) (at-is-good .is-good .ensures .sound (not-false _ (at-if1 .if1 .left))))
+    (found-shown (planned (x .plan .now)) (x .limit) (after (x .given .now)) _ _ (x .room .now) _ _ _ (at-next .next .ensures)
     (at-give-and-clear2 .give-and-clear2 .ensures .1))) (at-give-and-clear2 .give-and-clear2 .ensures .0) (at-fill .fill .ensures .long)
 
 pub next-of-spec : {M : Type 1} → statement M

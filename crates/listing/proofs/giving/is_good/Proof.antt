@@ -21,14 +21,16 @@ returns c = too-long (c .before .args .given .now) (c .before .args .limit) (c .
 loop-holds : tie.Need-loop-holds Inv-loop μ-loop
 loop-holds c = looked-none (c .before .args .given .now) (c .before .args .limit) (c .before .args .transitions) (c .if1 .left)
 
-shared-slice-read-if2 : tie.Need-shared-slice-read-if2 Inv-loop μ-loop
-shared-slice-read-if2 c = search needs
+shared-slice-read-wide : tie.Need-shared-slice-read-wide Inv-loop μ-loop
+shared-slice-read-wide c = search needs
+
+wide-requires : tie.Need-wide-requires Inv-loop μ-loop
+wide-requires c κs = search needs
 
 returns-2 : tie.Need-returns-2 Inv-loop μ-loop
 returns-2 c =
-    let at-loop-test = c .before .before in
-    let x = at-loop-test .before .before .before .args in
-    no-transition (x .given .now) (x .limit) (x .transitions) _ (at-loop-test .loop-test .taken) (c .if2 .taken)
+    let x = @start .args in
+    no-transition (x .given .now) (x .limit) (x .transitions) _ (@loop-test .loop-test .taken) (omega (arith, @wide .wide .ensures, @if2 .if2 .taken))
 
 add-i : tie.Need-add-i Inv-loop μ-loop
 add-i c = search needs
@@ -38,9 +40,8 @@ loop-less c = search needs
 
 loop-again : tie.Need-loop-again Inv-loop μ-loop
 loop-again c =
-    let at-loop = c .before .before .before in
-    let x = at-loop .before .before .args in
-    looked-more (x .given .now) (x .limit) (x .transitions) _ (at-loop .loop .inv) (c .if2 .left)
+    let x = @start .args in
+    looked-more (x .given .now) (x .limit) (x .transitions) _ (@loop .loop .inv) (omega (arith, @wide .wide .ensures, @if2 .if2 .left))
 
 returns-3 : tie.Need-returns-3 Inv-loop μ-loop
 returns-3 c =
@@ -56,7 +57,8 @@ is-good-spec =
     μ-loop
     returns
     loop-holds
-    shared-slice-read-if2
+    shared-slice-read-wide
+    wide-requires
     returns-2
     add-i
     loop-less
