@@ -8,7 +8,11 @@ abbrev pub TakenSays : ℕ → Taken → Type 0
 TakenSays long (Of n) = n ≤ long
 TakenSays long Done = Unit {0}
 
--- a number is one that its bytes can hold, or 16,777,216, which stands for the end of the corpus
+-- what stands for a number where the corpus ends: more than three bytes hold
+abbrev pub past : ℕ
+past = 16777216
+
+-- a number is one that its bytes can hold, or stands for the end of the corpus
 pub record ReadSays (most n : ℕ) : Type 0 where
-  pub few : n ≤ 16777216
-  pub held : n < 16777216 → n < most
+  pub few : n ≤ past
+  pub held : n < past → n < most

@@ -5,8 +5,10 @@ use rack::Case;
 use rack::Outcome;
 use rack::Written;
 
-// The length of the longest file.
+// The length of the longest file, and of the longest log.
 const LONGEST_FILE: usize = 2496;
+
+const LONGEST_LOG: usize = 40;
 
 // A byte as a number.
 fn wide(x: u8) -> usize {
@@ -25,7 +27,7 @@ fn compare(room: &[u8; LONGEST_FILE], n: usize, file: &[u8]) {
 }
 
 // Whether the first labels of a log are those that are shown.
-fn labels_are(labels: &[u8; 40], count: usize, shown: &[u8]) -> bool {
+fn labels_are(labels: &[u8; LONGEST_LOG], count: usize, shown: &[u8]) -> bool {
     check::same(report::first(labels, count), shown)
 }
 

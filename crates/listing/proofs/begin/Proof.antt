@@ -15,7 +15,7 @@ same-length : tie.Need-same-length
 same-length c = search needs
 
 returns : tie.Need-returns
-returns c = bar-refuses (@barred .barred .ensures) (@if1 .if1 .taken) (@clear .clear .ensures)
+returns c = bar-refuses (c .before .before .before .before .before .barred .ensures) (c .before .before .before .before .if1 .taken) (c .before .before .clear .ensures)
 
 open-requires : tie.Need-open-requires
 open-requires c κs = (search needs, omega arith)
@@ -24,7 +24,7 @@ same-length-2 : tie.Need-same-length-2
 same-length-2 c = search needs
 
 returns-2 : tie.Need-returns-2
-returns-2 c = bar-passes (@barred .barred .ensures) (@if1 .if1 .left) (@work2 .before .«open» .ensures)
+returns-2 c = bar-passes (c .before .before .before .before .before .before .barred .ensures) (c .before .before .before .before .before .if1 .left) (c .before .before .«open» .ensures)
 
 pub begin-spec : {M : Type 1} → statement M
 begin-spec =

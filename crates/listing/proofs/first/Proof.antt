@@ -15,15 +15,15 @@ enum-known-answer-2 : tie.Need-enum-known-answer-2
 enum-known-answer-2 c = search needs
 
 first-of-requires : tie.Need-first-of-requires
-first-of-requires c κs = ready-to-list (begun (@begin .begin .ensures) (@answer2 .answer2 .given .1))
+first-of-requires c κs = ready-to-list (begun (c .before .before .before .before .before .before .before .before .begin .ensures) (c .before .before .before .before .answer2 .given .1))
 
 same-length : tie.Need-same-length
 same-length c = search needs
 
 returns : tie.Need-returns
 returns c =
-    let x = @start .args in
-    refusal (x .file .now) (x .limit) from-start (x .room .now) (x .work .now) (not-begun (@begin .begin .ensures) (@answer .answer .given .1))
+    let x = c .before .before .before .before .before .before .before .before .before .before .before .args in
+    refusal (x .file .now) (x .limit) from-start (x .room .now) (x .work .now) (not-begun (c .before .before .before .before .before .begin .ensures) (c .before .answer .given .1))
 
 same-length-2 : tie.Need-same-length-2
 same-length-2 c = search needs
@@ -33,9 +33,9 @@ same-length-3 c = search needs
 
 returns-2 : tie.Need-returns-2
 returns-2 c =
-    let x = @start .args in
-    listed-outcome (x .file .now) (x .limit) from-start (x .room .now) (x .work .now) (begun (@begin .begin .ensures) (@answer2 .answer2 .given .1))
-    (@first-of .first-of .ensures)
+    let x = c .before .before .before .before .before .before .before .before .before .before .before .before .before .before .before .before .before .before .before .args in
+    listed-outcome (x .file .now) (x .limit) from-start (x .room .now) (x .work .now) (begun (c .before .before .before .before .before .before .before .before .before .before .before .before .before .begin .ensures) (c .before .before .before .before .before .before .before .before .before .answer2 .given .1))
+    (c .before .before .before .before .first-of .ensures)
 
 pub first-spec : {M : Type 1} → statement M
 first-spec =

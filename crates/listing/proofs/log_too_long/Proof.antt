@@ -9,10 +9,10 @@ events-requires : tie.Need-events-requires
 events-requires c κs = search needs
 
 returns : tie.Need-returns
-returns c = past-limit (@start .pre) (omega (arith, @events .events .ensures, @if1 .if1 .taken))
+returns c = past-limit (c .before .before .pre) (omega (arith, c .before .events .ensures, c .if1 .taken))
 
 returns-2 : tie.Need-returns-2
-returns-2 c = within-limit (omega (arith, @events .events .ensures, @if1 .if1 .left))
+returns-2 c = within-limit (omega (arith, c .before .events .ensures, c .if1 .left))
 
 pub log-too-long-spec : {M : Type 1} → statement M
 log-too-long-spec = tie.close (tie.spec events-requires returns returns-2)

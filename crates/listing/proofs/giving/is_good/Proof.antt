@@ -16,10 +16,10 @@ abbrev μ-loop : tie.MeasureT-loop
 μ-loop given limit transitions i₀ i = length given - i
 
 returns : tie.Need-returns Inv-loop μ-loop
-returns c = too-long (c .before .args .given .now) (c .before .args .limit) (c .before .args .transitions) (c .if1 .taken)
+returns c = too-long (c .before .before .args .given .now) (c .before .before .args .limit) (c .before .before .args .transitions) (c .if1 .taken)
 
 loop-holds : tie.Need-loop-holds Inv-loop μ-loop
-loop-holds c = looked-none (c .before .args .given .now) (c .before .args .limit) (c .before .args .transitions) (c .if1 .left)
+loop-holds c = looked-none (c .before .before .args .given .now) (c .before .before .args .limit) (c .before .before .args .transitions) (c .if1 .left)
 
 shared-slice-read-wide : tie.Need-shared-slice-read-wide Inv-loop μ-loop
 shared-slice-read-wide c = search needs
@@ -29,8 +29,8 @@ wide-requires c κs = search needs
 
 returns-2 : tie.Need-returns-2 Inv-loop μ-loop
 returns-2 c =
-    let x = @start .args in
-    no-transition (x .given .now) (x .limit) (x .transitions) _ (@loop-test .loop-test .taken) (omega (arith, @wide .wide .ensures, @if2 .if2 .taken))
+    let x = c .before .before .before .before .before .before .before .args in
+    no-transition (x .given .now) (x .limit) (x .transitions) _ (c .before .before .before .loop-test .taken) (omega (arith, c .before .wide .ensures, c .if2 .taken))
 
 add-i : tie.Need-add-i Inv-loop μ-loop
 add-i c = search needs
@@ -40,14 +40,13 @@ loop-less c = search needs
 
 loop-again : tie.Need-loop-again Inv-loop μ-loop
 loop-again c =
-    let x = @start .args in
-    looked-more (x .given .now) (x .limit) (x .transitions) _ (@loop .loop .inv) (omega (arith, @wide .wide .ensures, @if2 .if2 .left))
+    let x = c .before .before .before .before .before .before .before .args in
+    looked-more (x .given .now) (x .limit) (x .transitions) _ (c .before .before .before .before .loop .inv) (omega (arith, c .before .wide .ensures, c .if2 .left))
 
 returns-3 : tie.Need-returns-3 Inv-loop μ-loop
 returns-3 c =
-    let at-loop = c .before in
-    let x = at-loop .before .before .args in
-    all-looked (x .given .now) (x .limit) (x .transitions) _ (at-loop .loop .inv) (c .loop-test .left)
+    let x = c .before .before .before .before .args in
+    all-looked (x .given .now) (x .limit) (x .transitions) _ (c .before .loop .inv) (c .loop-test .left)
 
 pub is-good-spec : {M : Type 1} → statement M
 is-good-spec =
