@@ -9,12 +9,13 @@ use lib.ListN.{length, take}
 use lib.Seq.{take-length}
 use lib.Dec.{T, eqb}
 use Rattle.walks.specs.Walk.{walks}
-use Rattle.walks.proofs.Tests.{and-left, and-both, is-true}
+use Rattle.walks.proofs.Tests.{and-left, and-both}
 use Rattle.walks.proofs.Closed.{walks-cons}
 use Rattle.rack.specs.Follow.{ProductMarking, final, start, step}
 use Rattle.rack.specs.Outcome.{ofFile, NoneSays, NoneRests}
 use Rattle.rack.specs.CaseFileOutcome.{ReaderIs}
 use Rattle.rack.specs.CaseFileOutcome as reader
+use Rattle.rack.specs.Layout.{ReadsAs}
 use Rattle.rack.specs.Reach.{productWithin}
 use Rattle.rack.specs.Refusal.{speaks, rests, also, none}
 use Rattle.rack.specs.Replay.{goesOn, count, explains, saysExplains}
@@ -29,13 +30,13 @@ use Rattle.rack.proofs.Lift.{layout-rests, lift-refuses, lift-accepts}
 use Rattle.rack.proofs.Replaying.{count-is}
 use Rattle.rack.proofs.WellFormed.{well-formed, log-long}
 use Rattle.reader.proofs.Given.{given-whole}
-use Rattle.engine.specs.Parts.{productOf}
+use Rattle.engine.specs.Plan.{productOf}
 use Rattle.pattern.specs.Outcome.{CheckedSays}
 use Rattle.pattern.specs.declared.Checked.{Checked}
 use Rattle.pattern.specs.declared.Checked.the-variants as Checked
 use Rattle.retrace.specs.Firings.{positionOf, FiredSays}
 use Rattle.retrace.specs.declared.Fired.{Fired}
-use Rattle.retrace.proofs.Positions.{position-tells}
+use Rattle.retrace.proofs.Positions.{position-explains}
 
 -- ---- the run explains the log
 
@@ -50,15 +51,14 @@ walks-fires c (t ∷ r) m u =
 module _ {c : Case} (w : WellFormed c) where
   -- a run that ended explains the log exactly if it leads to the log's end
   ended-explains : (run : List ℕ) (budget : ℕ) → (eqb (count c run budget) (length run) && eqb (positionOf c (take (count c run budget) run)) (c .log .count)) ≡ saysExplains c run budget
-  unfolding saysExplains explains runs
+  unfolding saysExplains runs
   ended-explains run budget = go (eqb (count c run budget) (length run)) refl
     where
       go : (b : Bool) → eqb (count c run budget) (length run) ≡ b → (b && eqb (positionOf c (take (count c run budget) run)) (c .log .count)) ≡ (b && explains c run)
       go true e =
           let all : take (count c run budget) run ≡ run = ap (λ (k : ℕ). take k run) (eqb-true (count c run budget) (length run) e) ∙ take-length run in
-          let u : runs c run ≡ true =
-          is-true (runs c run) (walks-fires c run (start c) (subst (λ (l : List ℕ). T (walks (goesOn c) (step c) (start c) l)) all (count-is c run budget .fired))) in
-          rw (all, u) (position-tells c (log-long w) (w .log .names .few) run)
+          let u = subst (λ (l : List ℕ). T (walks (goesOn c) (step c) (start c) l)) all (count-is c run budget .fired) in
+          rw all (position-explains c (log-long w) (w .log .names .few) run (walks-fires c run (start c) u))
       go false e = refl
 
   -- ---- the answer for a case whose nets have passed
@@ -90,20 +90,22 @@ layout-refuses {f} {run} {budget} {n = n} {m = m} (reader.refused {m = k} (speak
     let place : k ≡ m = cc in
     subst (ReplayIs f run budget) (ap (λ (i : ℕ). replayRefused i k) two ∙ ap (replayRefused n) place ∙ sym q) (refused (speaks b))
 
-module _ {f run : List ℕ} {budget : ℕ} {r : Reading} {x : Checked} (h : ReaderIs f r) (whole : r .outcome ≡ Outcome.Whole) (y : CheckedSays (r .case) x) where
-  -- the file reads as a case, and a check on its nets speaks
-  pub nets-refuse : {n : ℕ} {a : Replayed} → x ≡ Checked.Refused n → a ≡ replayRefused n 0 → ReplayIs f run budget a
-  nets-refuse e q =
-      let reads = given-whole h whole in
+-- the file reads as the case c
+module _ {f : List ℕ} {r : Reading} {c : Case} (h : ReaderIs f r) (whole : r .outcome ≡ Outcome.Whole) (made : c ≡ r .case) where
+  reads : ReadsAs f c
+  reads = subst (ReadsAs f) (sym made) (given-whole h whole)
+
+  pub file-well : WellFormed c
+  file-well = well-formed reads
+
+  -- a check on its nets speaks
+  pub nets-refuse : {run : List ℕ} {budget : ℕ} {x : Checked} {n : ℕ} {a : Replayed} → CheckedSays c x → x ≡ Checked.Refused n → a ≡ replayRefused n 0 → ReplayIs f run budget a
+  nets-refuse {run} {budget} y e q =
       subst (ReplayIs f run budget) (sym q)
-      (refused (rests (layout-rests (ofFile f) NoneSays NoneRests (r .case) reads) (lift-refuses (ofFile f) NoneSays NoneRests (r .case) reads [] (subst (CheckedSays (r .case)) e y))))
+      (refused (rests (layout-rests (ofFile f) NoneSays NoneRests c reads) (lift-refuses (ofFile f) NoneSays NoneRests c reads [] (subst (CheckedSays c) e y))))
 
   -- none speaks
-  pub nets-pass : {a : Replayed} → x ≡ Checked.Pass → a ≡ replayOf (r .case) run budget → ReplayIs f run budget a
-  nets-pass e q =
-      let reads = given-whole h whole in
+  pub nets-pass : {run : List ℕ} {budget : ℕ} {x : Checked} {a : Replayed} → CheckedSays c x → x ≡ Checked.Pass → a ≡ replayOf c run budget → ReplayIs f run budget a
+  nets-pass {run} {budget} y e q =
       subst (ReplayIs f run budget) (sym q)
-      (replayed (also (layout-rests (ofFile f) NoneSays NoneRests (r .case) reads) (lift-accepts (ofFile f) NoneSays NoneRests (r .case) reads (subst (CheckedSays (r .case)) e y) none)) reads)
-
-pub file-well : {f : List ℕ} {r : Reading} → ReaderIs f r → r .outcome ≡ Outcome.Whole → WellFormed (r .case)
-file-well x e = well-formed (given-whole x e)
+      (replayed (also (layout-rests (ofFile f) NoneSays NoneRests c reads) (lift-accepts (ofFile f) NoneSays NoneRests c reads (subst (CheckedSays c) e y) none)) reads)

@@ -1,4 +1,3 @@
 pub mod Positions
 pub mod Standing
-pub mod Parts
 pub mod Answering

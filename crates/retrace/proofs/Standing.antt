@@ -14,7 +14,7 @@ use Rattle.walks.specs.Walk.{walks, ends}
 use Rattle.walks.proofs.Tests.{and-left, and-right, and-both, of-true}
 use Rattle.walks.proofs.Closed.{walks-snoc, ends-snoc}
 use Rattle.rack.specs.Net.{within}
-use Rattle.rack.specs.Follow.{ProductMarking, start, step}
+use Rattle.rack.specs.Follow.{ProductMarking, labelOf, start, step}
 use Rattle.rack.specs.Reach.{productWithin}
 use Rattle.rack.specs.Run.{fires, end}
 use Rattle.rack.specs.Keep.{keeps}
@@ -24,9 +24,11 @@ use Rattle.rack.specs.declared.Case.{Case}
 use Rattle.rack.specs.declared.Stop.{Stop}
 use Rattle.rack.specs.declared.Stop.the-variants.{RunEnded, BudgetSpent, NotFirable, CapPassed}
 use Rattle.rack.proofs.Replaying.{Counted}
-use Rattle.engine.specs.Parts.{productOf}
+use Rattle.engine.specs.Fits.{BothLow}
+use Rattle.engine.specs.Plan.{productOf}
+use Rattle.engine.specs.Position.{positionAfter}
 use Rattle.engine.specs.declared.Product.{Product}
-use Rattle.engine.proofs.Kept.{step-system-length, step-pattern-length}
+use Rattle.engine.proofs.Kept.{within-tokens, step-system-length, step-pattern-length}
 use Rattle.retrace.specs.Firings.{positionBy, positionOf, firedOf, FiredSays}
 use Rattle.retrace.specs.declared.Fired.{Fired}
 
@@ -61,12 +63,24 @@ standing-start {c} run budget m w e =
 -- ---- one firing more
 
 module _ {c : Case} {run : List ℕ} {budget : ℕ} {m : ProductMarking} {at n : ℕ} (s : Standing c run budget m at n) where
-  pub standing-more : (m′ : ProductMarking) (at′ : ℕ) → n < length run → (n ≡ budget → ⊥) → fires c m (getD run n 0) ≡ true → m′ ≡ step c m (getD run n 0) → T (productWithin c m′)
-      → at′ ≡ positionBy c at (getD run n 0) → Standing c run budget m′ at′ (n + 1)
-  unfolding goesOn positionOf
-  standing-more m′ at′ l ne f e h p =
-      let t = getD run n 0 in
-      let one : take (n + 1) run ≡ take n run ++ (t ∷ []) = ap (λ (k : ℕ). take k run) (add-one n) ∙ take-suc run n 0 l in
+  -- the tokens leave room for a firing
+  pub standing-low : WellFormed c → BothLow m
+  unfolding productWithin
+  standing-low w =
+      let a = within 16 (c .net .cap) (m .system) in
+      let b = within 8 (c .pattern .cap) (m .pattern) in
+      record {
+        system = within-tokens 16 (c .net .cap) (m .system) (s .long) (w .net .cap-low) (and-left a b (s .held));
+        pattern = within-tokens 8 (c .pattern .cap) (m .pattern) (s .wide) (w .pattern .cap-low) (and-right a b (s .held));
+      }
+
+  -- t is the next number of the run
+  pub standing-more : (m′ : ProductMarking) (at′ : ℕ) {t : ℕ} → n < length run → (n ≡ budget → ⊥) → t ≡ getD run n 0 → fires c m t ≡ true → m′ ≡ step c m t → T (productWithin c m′)
+      → at′ ≡ positionAfter c (labelOf c t) at → Standing c run budget m′ at′ (n + 1)
+  unfolding goesOn positionOf positionBy
+  standing-more m′ at′ {t} l ne q f e h p =
+      let one : take (n + 1) run ≡ take n run ++ (t ∷ []) =
+      ap (λ (k : ℕ). take k run) (add-one n) ∙ take-suc run n 0 l ∙ ap (λ (x : ℕ). take n run ++ (x ∷ [])) (sym q) in
       let on : T (goesOn c (ends (goesOn c) (step c) (start c) (take n run)) t) =
       subst (λ (x : ProductMarking). T (goesOn c x t)) (s .there)
       (and-both (fires c m t) (productWithin c (step c m t)) (of-true _ f) (subst (λ (x : ProductMarking). T (productWithin c x)) e h)) in
@@ -141,11 +155,14 @@ module _ {c : Case} {run : List ℕ} {budget : ℕ} (p : Product) {at n : ℕ} (
   unfolding reasonAfter
   budget-spent e l b = subst (FiredSays c run budget) (sym e) (stopped-by BudgetSpent (λ h k. absurd (omega arith)) (rw (ne-eqb n (length run) (omega arith), eq-eqb n budget b)))
 
-  pub not-firable : {r : Fired} → r ≡ firedOf n p at NotFirable → n < length run → (n ≡ budget → ⊥) → fires c (productOf p) (getD run n 0) ≡ false → FiredSays c run budget r
-  unfolding reasonAfter goesOn
-  not-firable e l b f = subst (FiredSays c run budget) (sym e) (stopped-by NotFirable (λ h k. rw f) (rw (ne-eqb n (length run) (omega arith), ne-eqb n budget b, f)))
+  -- t is the next number of the run
+  module _ {t : ℕ} (l : n < length run) (b : n ≡ budget → ⊥) (q : t ≡ getD run n 0) where
+    pub not-firable : {r : Fired} → r ≡ firedOf n p at NotFirable → fires c (productOf p) t ≡ false → FiredSays c run budget r
+    unfolding reasonAfter goesOn
+    not-firable e f =
+        subst (FiredSays c run budget) (sym e) (stopped-by NotFirable (λ h k. rw (← q, f)) (rw (ne-eqb n (length run) (omega arith), ne-eqb n budget b, ← q, f)))
 
-  pub cap-passed : {r : Fired} → r ≡ firedOf n p at CapPassed → n < length run → (n ≡ budget → ⊥) → fires c (productOf p) (getD run n 0) ≡ true → productWithin c (step c (productOf p) (getD run n 0)) ≡ false
-      → FiredSays c run budget r
-  unfolding reasonAfter goesOn
-  cap-passed e l b f o = subst (FiredSays c run budget) (sym e) (stopped-by CapPassed (λ h k. rw (f, o)) (rw (ne-eqb n (length run) (omega arith), ne-eqb n budget b, f)))
+    pub cap-passed : {r : Fired} → r ≡ firedOf n p at CapPassed → fires c (productOf p) t ≡ true → productWithin c (step c (productOf p) t) ≡ false → FiredSays c run budget r
+    unfolding reasonAfter goesOn
+    cap-passed e f o =
+        subst (FiredSays c run budget) (sym e) (stopped-by CapPassed (λ h k. rw (← q, f, o)) (rw (ne-eqb n (length run) (omega arith), ne-eqb n budget b, ← q, f)))

@@ -3,9 +3,10 @@
 // rack's specs/Replay.antt and specs/ReplayOutcome.antt.
 use crate::firing::fire;
 use engine::Product;
-use engine::wide;
+use engine::plan;
+use engine::plan::PLAN;
+use engine::plan::Plan;
 use pattern::Checked;
-use rack::Case;
 use rack::Outcome;
 use rack::Replayed;
 use rack::Stop;
@@ -14,6 +15,7 @@ ghost use mathlib.Core.Bool.{_&&_};
 ghost use lib.Dec.{eqb};
 ghost use Rattle.rack.specs.WellFormed.{WellFormed};
 ghost use Rattle.rack.specs.ReplayOutcome.{ReplayIs, replayOf, replayRefused};
+ghost use Rattle.engine.specs.Plan.{planned};
 
 mod firing; // firing.rt: the firings, one after the other
 
@@ -50,13 +52,11 @@ fn both_ended(fired: usize, long: usize, at: usize, events: usize) -> bool
 }
 
 // Replays a run on a case whose nets have passed the checks.
-fn replay(c: Case, run: &[u8], budget: u16) -> Replayed
-    requires { ⌜ WellFormed c ⌝ }
-    ensures { λ r. ⌜ r ≡ replayOf c (now (run .entry)) budget ⌝ }
+fn replay(plan: &Plan, run: &[u8], budget: u16) -> Replayed
+    requires { ⌜ WellFormed (planned (now plan)) ⌝ }
+    ensures { λ r. ⌜ r ≡ replayOf (planned (now (plan .entry))) (now (run .entry)) budget ⌝ }
 {
-    let done = fire(c, run, budget as usize);
-    let bounds = c.bounds;
-    let log = c.log;
+    let done = fire(plan, run, budget as usize);
     let marking = done.marking;
     let system = marking.system;
     let pattern = marking.pattern;
@@ -64,8 +64,8 @@ fn replay(c: Case, run: &[u8], budget: u16) -> Replayed
     let pattern_tokens = pattern.tokens;
     let fired = done.fired;
     let stop = done.stop;
-    let matches = engine::is_final(&bounds.least, &bounds.most, wide(bounds.count), pattern);
-    let explains = both_ended(fired, run.len(), done.at, wide(log.count));
+    let matches = engine::is_final(plan, pattern);
+    let explains = both_ended(fired, run.len(), done.at, plan::events(plan));
     Replayed {
         fired,
         system: tokens,
@@ -76,20 +76,22 @@ fn replay(c: Case, run: &[u8], budget: u16) -> Replayed
     }
 }
 
-// Replays a run on the case of a file, firing at most `budget` transitions; or refuses by the first of the checks 2 to 7 that speaks.
+// Replays a run on the case of a file, firing at most `budget` transitions; or refuses by the first of the checks 2 to 7 that speaks. The plan
+// of the case is made once; the checks and the firings are lent it.
 pub fn retrace(file: &[u8], run: &[u8], budget: u16) -> Replayed
     ensures { λ r. ⌜ ReplayIs (now (file .entry)) (now (run .entry)) budget r ⌝ }
 {
     let reading = reader::read_case(file);
     let outcome = reading.outcome;
-    let case = reading.case;
     match outcome {
         Outcome::Refused(number, place) => refused(number, place),
         Outcome::Whole => {
-            let checked = pattern::check_pattern(case);
+            let mut plan = [0u8; PLAN];
+            plan::plan_of(&mut plan, reading.case);
+            let checked = pattern::check_pattern(&plan);
             match checked {
                 Checked::Refused(number) => refused(number, 0),
-                Checked::Pass => replay(case, run, budget),
+                Checked::Pass => replay(&plan, run, budget),
             }
         }
     }
