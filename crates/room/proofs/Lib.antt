@@ -5,4 +5,4 @@ pub mod OrderLaws
 pub mod SortLaws
 pub mod SameRows
 pub mod ByteLaws
-pub mod NodeLaws
+pub mod BehindLaws

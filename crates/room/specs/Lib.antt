@@ -1,4 +1,3 @@
 pub mod Rows
 pub mod Order
 pub mod Bits
-pub mod Nodes
