@@ -65,7 +65,7 @@ fn replay(plan: &Plan, run: &[u8], budget: u16) -> Replayed
     let fired = done.fired;
     let stop = done.stop;
     let matches = engine::is_final(plan, pattern);
-    let explains = both_ended(fired, run.len(), done.at, plan::events(plan));
+    let explains = both_ended(done.fired, run.len(), done.at, plan::events(plan));
     Replayed {
         fired,
         system: tokens,
