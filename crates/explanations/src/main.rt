@@ -5,7 +5,9 @@ use arguments::Spelled;
 use arguments::argument;
 use libc::STDERR_FILENO;
 use libc::STDIN_FILENO;
+use rack::LONGEST_FILE;
 use rack::Listed;
+use rack::WORK_ROOM;
 ghost use mathlib.Core.Path.{_≡_};
 ghost use Prim.Native.Nat.{_≤_};
 ghost use lib.ListN.{length};
@@ -103,8 +105,8 @@ fn main() {
         usage();
         return;
     };
-    let mut file = [0u8; 2497];
+    let mut file = [0u8; LONGEST_FILE + 1];
     let n = io::read_full(STDIN_FILENO, &mut file);
-    let mut work = [0u8; 57344];
+    let mut work = [0u8; WORK_ROOM];
     all(&file[..n], limit, &mut work);
 }

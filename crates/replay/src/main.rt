@@ -6,6 +6,7 @@ use arguments::Spelled;
 use arguments::argument;
 use libc::STDERR_FILENO;
 use libc::STDIN_FILENO;
+use rack::LONGEST_FILE;
 ghost use Prim.Native.Nat.{_≤_};
 ghost use lib.ListN.{length};
 
@@ -63,7 +64,7 @@ fn main() {
         usage();
         return;
     }
-    let mut file = [0u8; 2497];
+    let mut file = [0u8; LONGEST_FILE + 1];
     let n = io::read_full(STDIN_FILENO, &mut file);
     answer(&file[..n], &run, count, budget as u16);
 }

@@ -2,17 +2,18 @@
 // is refused. It keeps one byte more than the longest file has.
 use libc::STDIN_FILENO;
 use rack::Case;
+use rack::LONGEST_FILE;
 use rack::Outcome;
 use rack::Written;
 
 // Prints the first n bytes of the room that a case was written to.
-fn print(room: &[u8; 2496], n: usize) {
+fn print(room: &[u8; LONGEST_FILE], n: usize) {
     report::text(report::first(room, n));
 }
 
 // Writes a case that was read.
 fn write(case: Case) {
-    let mut room = [0u8; 2496];
+    let mut room = [0u8; LONGEST_FILE];
     let written = writer::write_case(&mut room, case);
     match written {
         Written::Bytes(n) => {
@@ -25,7 +26,7 @@ fn write(case: Case) {
 }
 
 fn main() {
-    let mut file = [0u8; 2497];
+    let mut file = [0u8; LONGEST_FILE + 1];
     let n = io::read_full(STDIN_FILENO, &mut file);
     let reading = reader::read_case(&file[..n]);
     let outcome = reading.outcome;

@@ -2,7 +2,9 @@
 // length, its numbers; or one line that says why it is refused. It keeps one byte more than the longest file has.
 use libc::STDIN_FILENO;
 use rack::Judged;
+use rack::LONGEST_FILE;
 use rack::Verdict;
+use rack::WORK_ROOM;
 
 // A line for a shown run.
 fn print_run(letter: &[u8], room: &[u8; 2048], length: usize) {
@@ -35,10 +37,10 @@ fn print(judged: Judged, matching: &[u8; 2048], other: &[u8; 2048]) {
 }
 
 fn main() {
-    let mut file = [0u8; 2497];
+    let mut file = [0u8; LONGEST_FILE + 1];
     let mut matching = [0u8; 2048];
     let mut other = [0u8; 2048];
-    let mut work = [0u8; 57344];
+    let mut work = [0u8; WORK_ROOM];
     let n = io::read_full(STDIN_FILENO, &mut file);
     let judged = judge::judge(&file[..n], &mut matching, &mut other, &mut work);
     print(judged, &matching, &other);
