@@ -1,15 +1,14 @@
 -- From the verdict on a case that has been read to the outcome of the call on its file. Assumes nothing.
 use Prim.Native.Nat.{ℕ, _<_, _≤_}
-use mathlib.Core.Path.{_≡_, refl, sym, ap, _∙_, subst}
-use mathlib.Core.Bool.{Bool, true, false}
+use mathlib.Core.Path.{refl, subst}
+use mathlib.Core.Bool.{Bool, true}
 use mathlib.Core.List.{List, [], _∷_, _++_}
-use native.Mathlib.Omega.{arith}
 use lib.ListN.{length}
 use Rattle.rack.specs.Run.{Explains}
 use Rattle.rack.specs.Verdict.{FirstOfKind}
 use Rattle.rack.specs.Layout.{ReadsAs, BreaksAt}
 use Rattle.rack.specs.Refusal.{Own, unexplained, lent-room, Check, work-room, own, workRoom, NetsPass, Question, Refuses, speaks, rests}
-use Rattle.rack.specs.NetChecks.{patternOrder, productOrder}
+use Rattle.rack.specs.NetChecks.{productOrder}
 use Rattle.rack.specs.Outcome.{zeroed}
 use Rattle.rack.specs.VerdictOutcome.{ofVerdict, TooLong, RunShort, matching-short, other-short, VerdictSays, run-short, VerdictRests, one-explains, VerdictIs}
 use Rattle.rack.specs.VerdictOutcome as outcome

@@ -5,22 +5,18 @@ use mathlib.Core.Bool.{Bool, true, false}
 use mathlib.Core.List.{List, _++_}
 use native.Mathlib.Omega.{arith}
 use lib.ListN.{length, drop}
-use Rattle.walks.specs.Back.{BackTo}
 use Rattle.walks.proofs.Back.{back-way}
 use Rattle.walks.proofs.FirstWalk.{first-met, never-met}
-use Rattle.rack.specs.Run.{Explains, matches}
-use Rattle.rack.specs.Keep.{moves, onto, Goal}
-use Rattle.rack.specs.Verdict.{FirstOfKind, AllOfKind, IsFaulty, IsSafe, NoneExplains}
+use Rattle.rack.specs.Run.{matches}
+use Rattle.rack.specs.Keep.{Goal}
+use Rattle.rack.specs.Verdict.{FirstOfKind}
 use Rattle.rack.specs.Outcome.{holding}
 use Rattle.rack.specs.declared.Case.{Case}
-use Rattle.rack.specs.declared.Judged.{Judged}
 use Rattle.rack.specs.declared.Verdict.the-variants as Verdict
 use Rattle.rack.proofs.OneFirst.{first-one}
 use Rattle.rack.proofs.Nodes.{first-of-nodes, none-of-nodes}
-use Rattle.steps.specs.Nodes.{nodeAt}
-use Rattle.search.specs.Nodes.{idAt, Searching}
+use Rattle.search.specs.Nodes.{Searching}
 use Rattle.search.specs.Found.{PlaceSays, SearchSays, RunWritten}
-use Rattle.search.specs.GoingBack.{MetAt}
 use Rattle.search.specs.declared.Place.{Place}
 use Rattle.search.specs.declared.Place.the-variants.{At, Nowhere}
 use Rattle.search.specs.declared.Searched.{Searched}

@@ -1,6 +1,6 @@
 -- What the verdict takes from the search: of each kind the first explanation, by where the search met its end; or that there is none.
 -- Assumes nothing.
-use Prim.Native.Nat.{ℕ, _≤_}
+use Prim.Native.Nat.{ℕ}
 use mathlib.Core.Path.{_≡_}
 use mathlib.Core.Bool.{Bool}
 use mathlib.Core.List.{List}

@@ -11,10 +11,10 @@ use Rattle.rack.specs.ListingOutcome.{limitMost, ListingIs}
 use Rattle.rack.specs.declared.Listed.{Listed}
 use Rattle.rack.specs.declared.Listed.the-variants.{Refused}
 use Rattle.engine.specs.Plan.{planned}
-use Rattle.admit.specs.Admits.{of-layout, of-nets, OpenRefuses, short, of-file, Opened, OpenSays}
+use Rattle.admit.specs.Admits.{of-layout, of-nets, short, of-file, Opened, OpenSays}
 use Rattle.admit.specs.declared.Answer.{Answer}
 use Rattle.admit.specs.declared.Answer.the-variants as Answer
-use Rattle.listing.specs.Barred.{Barred, by-room, by-limit, by-neither, BeginRefuses, of-bar, of-open, BeginAnswer, BeginSays}
+use Rattle.listing.specs.Barred.{Barred, by-neither, BeginRefuses, of-bar, of-open, BeginAnswer, BeginSays}
 use Rattle.listing.specs.CaseListed.{ListedSays, Listing}
 use Rattle.listing.proofs.Listing.{barred-outcome, broken-file, nets-refuse, listing-of}
 

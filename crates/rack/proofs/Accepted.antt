@@ -1,19 +1,17 @@
 -- What holds in a case that the checks on its nets let pass: at most one pattern transition follows, a match is kept by longer runs, and the
 -- caps play no part in the meaning. Assumes nothing.
-use Prim.Native.Nat.{ℕ, zero, suc, _+_, _<_, _≤_}
-use mathlib.Core.Path.{_≡_, refl, sym, ap, _∙_, subst}
-use mathlib.Core.Bool.{Bool, true, false, _&&_, not}
-use mathlib.Core.List.{List, [], _∷_, _++_}
+use Prim.Native.Nat.{ℕ, zero, suc, _+_, _<_}
+use mathlib.Core.Path.{_≡_, refl, sym, subst}
+use mathlib.Core.Bool.{Bool, true, false, _&&_}
+use mathlib.Core.List.{List, _++_}
 use mathlib.Core.Logic.{_⊎_, inl, inr, ⊎-elim}
 use native.Mathlib.Nat.{add-suc, suc-add}
 use native.Mathlib.Omega.{arith}
-use lib.ListN.{length, getD}
 use lib.Dec.{T, ltb, eqb, ltb→lt}
 use borrow.Author.Tests.{ltb-true}
 use Rattle.walks.specs.Below.{pick, firstFrom}
-use Rattle.walks.specs.Walk.{walks, ends, Reaches}
-use Rattle.walks.specs.Few.{AtMost}
-use Rattle.walks.proofs.Tests.{and-left, and-right, and-both, of-true, true-or-not}
+use Rattle.walks.specs.Walk.{ends}
+use Rattle.walks.proofs.Tests.{and-right, and-both, of-true, true-or-not}
 use Rattle.walks.proofs.Closed.{closed-holds, closed-reached, reaches-self, reaches-more, ends-append, walks-append}
 use Rattle.walks.proofs.Order.{Trio, trio, lower, equal, higher}
 use Rattle.rack.specs.Net.{firable, within}

@@ -1,6 +1,6 @@
 -- From what holds of a case to what the calls answer on a file that reads as it, in rooms that are long enough. Assumes nothing.
 use Prim.Native.Nat.{ℕ, _<_, _≤_}
-use mathlib.Core.Path.{_≡_, refl, sym, ap, _∙_, subst}
+use mathlib.Core.Path.{_≡_, sym, ap, _∙_, subst}
 use mathlib.Core.Bool.{Bool, true, false}
 use mathlib.Core.List.{List, [], _∷_, List·Memᴰ, List·Memᴰ·not-nil, List·Memᴰ·cases-cons}
 use mathlib.Core.Logic.{_⊎_, ⊎-elim}
@@ -12,8 +12,8 @@ use Rattle.walks.specs.Walk.{walks}
 use Rattle.walks.proofs.Closed.{walks-cons}
 use Rattle.rack.specs.Follow.{ProductMarking, start, step}
 use Rattle.rack.specs.Run.{fires, runs, matches, Explains}
-use Rattle.rack.specs.Verdict.{FirstOfKind, AllOfKind, NoneExplains, IsFaulty, IsSafe, IsAmbiguous}
-use Rattle.rack.specs.Listing.{Asked, from-start, after, NextIs, EndIs}
+use Rattle.rack.specs.Verdict.{FirstOfKind, NoneExplains, IsFaulty, IsSafe, IsAmbiguous}
+use Rattle.rack.specs.Listing.{Asked, after, NextIs, EndIs}
 use Rattle.rack.specs.Layout.{ReadsAs}
 use Rattle.rack.specs.Refusal.{Own, unexplained, lent-room, given-run, Check, own, workRoom, NetsPass, speaks, rests, none, also}
 use Rattle.rack.specs.Outcome.{holding, zeroed}
@@ -23,10 +23,9 @@ use Rattle.rack.specs.ListingOutcome.{ofListing, limitMost, GivenBad, Ne
 use Rattle.rack.specs.ListingOutcome as list
 use Rattle.rack.specs.declared.Case.{Case}
 use Rattle.rack.specs.declared.Listed.the-variants as Listing
-use Rattle.rack.specs.declared.Judged.{Judged}
 use Rattle.rack.specs.declared.Verdict.the-variants as Verdict
 use Rattle.rack.proofs.OneReading.{one-case}
-use Rattle.rack.proofs.OneFirst.{first-one, next-one}
+use Rattle.rack.proofs.OneFirst.{first-one}
 use Rattle.rack.proofs.Accept.{firable-known}
 use Rattle.rack.proofs.Lift.{layout-rests, lift-on, lift-accepts, passes-accept}
 

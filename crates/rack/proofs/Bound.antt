@@ -1,19 +1,16 @@
 -- How long a shown run can be: "No shown run is longer than the count of reachable product markings times (log length + 1), less one".
 -- Assumes nothing.
 use Prim.Native.Nat.{ℕ, zero, suc, _+_, _*_, _<_, _≤_}
-use mathlib.Core.Path.{_≡_, refl, sym, ap, _∙_, subst}
-use mathlib.Core.Bool.{Bool, true, false, _&&_}
+use mathlib.Core.Path.{_≡_, refl, sym, ap, _∙_}
+use mathlib.Core.Bool.{Bool, true, false}
 use mathlib.Core.List.{List, [], _∷_, _++_, List·Memᴰ, List·Memᴰ·head, List·Memᴰ·tail, List·Memᴰ·not-nil, List·Memᴰ·cases-cons, Memᴰ·append-left, Memᴰ·append-right}
 use mathlib.Core.Logic.{⊎-elim}
 use native.Mathlib.Nat.{suc-mul, zero-mul, mul-le-mul}
-use native.Mathlib.Numerals.{add-one}
 use native.Mathlib.Omega.{arith}
 use lib.ListN.{length, getD, length-append, length-take}
 use lib.Dec.{T, ltb, eqb, ltb→lt}
-use borrow.Author.Tests.{eqb-true, eqb-false}
 use Rattle.walks.specs.Below.{pick}
-use Rattle.walks.specs.Walk.{walks, ends, Reaches}
-use Rattle.walks.specs.Order.{before}
+use Rattle.walks.specs.Walk.{Reaches}
 use Rattle.walks.specs.Few.{AtMost}
 use Rattle.walks.proofs.Tests.{and-left, and-right}
 use Rattle.walks.proofs.Closed.{closed-reached, reaches-self}
@@ -30,7 +27,7 @@ use Rattle.rack.specs.Refusal.{PatternOver, SystemOver, NetsPass}
 use Rattle.rack.specs.VerdictOutcome.{VerdictIs, faulty, safe, ambiguous, refused}
 use Rattle.rack.specs.declared.Judged.{Judged}
 use Rattle.rack.specs.declared.Case.{Case}
-use Rattle.rack.proofs.Keep.{Kept, explains-kept, kept-explains}
+use Rattle.rack.proofs.Keep.{explains-kept, kept-explains}
 use Rattle.rack.proofs.Accepted.{one-further}
 use Rattle.rack.proofs.Lift.{verdict-passes}
 use Rattle.rack.proofs.WellFormed.{well-formed}

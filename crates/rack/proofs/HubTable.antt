@@ -1,14 +1,14 @@
 -- THE HUB'S TABLE: every row of H1 to H12 holds (`every-row-holds`), and so do the rows that tell the slips. A test that antt computes settles
 -- each row: the file is read, its nets are explored, and the runs that explain its log are gone through. Assumes nothing.
 use Prim.Native.Nat.{ℕ, _≤_}
-use mathlib.Core.Path.{_≡_, refl, sym, ap, _∙_, subst}
+use mathlib.Core.Path.{_≡_, refl, sym, subst}
 use mathlib.Core.Bool.{Bool, true, false, _&&_, Bool·beq}
 use mathlib.Core.List.{List, [], _∷_}
 use mathlib.Core.Option.{Option, none, some}
 use native.Mathlib.Omega.{arith}
 use lib.ListN.{length}
 use lib.Dec.{T, leb, eqb, leb→le, eqb→eq}
-use Rattle.walks.specs.Below.{pick, allBelow, anyBelow, firstFrom, tableFrom, every, same}
+use Rattle.walks.specs.Below.{allBelow, anyBelow, firstFrom, tableFrom, every, same}
 use Rattle.walks.specs.Walk.{walks, ends}
 use Rattle.walks.specs.Order.{smaller, before}
 use Rattle.walks.proofs.Tests.{and-left, and-right, beq→eq, allOf, part}
@@ -18,8 +18,7 @@ use Rattle.rack.specs.Follow.{patternEnabled, patternFired, patternLabel
 use Rattle.rack.specs.Reach.{patternGoes, productWithin, productGoes}
 use Rattle.rack.specs.Run.{runs, end, visible, shown, logOf, matches}
 use Rattle.rack.specs.Keep.{maySilently, due, keeps, next, moves, onto, origin}
-use Rattle.rack.specs.Verdict.{FirstOfKind, IsFaulty, IsSafe, IsAmbiguous}
-use Rattle.rack.specs.Listing.{Asked, from-start, after, later, NextIs}
+use Rattle.rack.specs.Listing.{Asked, from-start, after, later}
 use Rattle.rack.specs.Replay.{explains}
 use Rattle.rack.specs.Bytes.{filled, put, rising, marked}
 use Rattle.rack.specs.Marks.{markOf, follows}
@@ -28,7 +27,7 @@ use Rattle.rack.specs.Layout.{zeroCase, ReadsAs}
 use Rattle.rack.specs.Writing.{listed, upTo, ntBytes, trBytes, prBytes, obBytes, ptBytes, pxBytes, qfBytes, lgBytes, bytesOf}
 use Rattle.rack.specs.Refusal.{pairAt, lowerOf, NetsPass}
 use Rattle.rack.specs.ListingOutcome.{GivenBad}
-use Rattle.rack.specs.Hub.{arc, hub, shortHub, Call, verdict, listing, Entry, Expected, faulty, safe, ambiguous, refused, Row, Judges, Lists, Answers, AllHold, hubTable}
+use Rattle.rack.specs.Hub.{arc, hub, shortHub, Call, verdict, listing, Entry, Expected, faulty, safe, ambiguous, refused, Row, Lists, Answers, AllHold, hubTable}
 use Rattle.rack.specs.Hub as table
 use Rattle.rack.specs.Slips.{telling, noPairs, noLinks, chain, twoTokens, mustFollow, slipTable}
 use Rattle.rack.specs.declared.Case.{Case}

@@ -1,7 +1,7 @@
 -- From the checks on the nets of a case to the checks of a call on a file that reads as it. Assumes nothing.
 use Prim.Native.Nat.{ℕ}
-use mathlib.Core.Path.{_≡_, refl, sym, subst}
-use mathlib.Core.List.{List, [], _∷_, _++_}
+use mathlib.Core.Path.{refl, subst}
+use mathlib.Core.List.{List, _++_}
 use Rattle.rack.specs.Layout.{ReadsAs}
 use Rattle.rack.specs.Refusal.{Own, Check, work-room, layout, cycle, pattern-count, pattern-cap, two-join, final-left, product-count, system-cap, own}
 use Rattle.rack.specs.Refusal.{NetsPass, Question, OfCase, Speaks, Silent, FirstToSpeak, speaks, rests, AllSilent, none, also, verdictOrder, Accepts}

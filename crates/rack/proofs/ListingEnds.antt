@@ -1,13 +1,13 @@
 -- Two sentences of 01 on the listing's end: a log longer than the limit gives the end, and so does a case that no run explains. Assumes nothing.
 use Prim.Native.Nat.{ℕ, suc, _<_, _≤_}
-use mathlib.Core.Path.{_≡_, refl, ap}
+use mathlib.Core.Path.{ap}
 use mathlib.Core.Bool.{Bool, true, false}
 use mathlib.Core.List.{List, [], _∷_}
 use native.Mathlib.Omega.{arith}
 use lib.ListN.{length}
 use Rattle.walks.specs.Below.{pick}
 use Rattle.rack.specs.Follow.{labelOf}
-use Rattle.rack.specs.Run.{visible, shown, logOf, Explains}
+use Rattle.rack.specs.Run.{visible, shown, logOf}
 use Rattle.rack.specs.Verdict.{NoneExplains}
 use Rattle.rack.specs.Listing.{Asked, EndIs}
 use Rattle.rack.specs.declared.Case.{Case}

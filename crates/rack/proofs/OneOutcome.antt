@@ -1,18 +1,17 @@
 -- ANY TWO OUTCOMES THAT A CALL'S DEFINITION ALLOWS ARE EQUAL: `reader-one`, `log-one`, `writer-one`, `verdict-one`, `listing-one`,
 -- `replay-one`. Assumes nothing.
-use Prim.Native.Nat.{ℕ, _<_, _≤_}
+use Prim.Native.Nat.{ℕ}
 use mathlib.Core.Path.{_≡_, refl, sym, ap, ap₂, _∙_, subst}
 use mathlib.Core.Bool.{Bool, true, false, true≢false}
-use mathlib.Core.List.{List, []}
+use mathlib.Core.List.{List}
 use native.Mathlib.Omega.{arith}
 use lib.ListN.{length}
-use Rattle.rack.specs.Run.{Explains, matches}
-use Rattle.rack.specs.Verdict.{FirstOfKind, IsFaulty, IsSafe, IsAmbiguous, AllOfKind}
+use Rattle.rack.specs.Run.{matches}
+use Rattle.rack.specs.Verdict.{FirstOfKind, AllOfKind}
 use Rattle.rack.specs.Listing.{Asked, NextIs, EndIs}
-use Rattle.rack.specs.Layout.{zeroCase, ReadsAs, BreaksAt}
-use Rattle.rack.specs.Writing.{bytesOf}
-use Rattle.rack.specs.Refusal.{layout, Own, readerOrder, writerOrder, verdictOrder, listingOrder, replayOrder, speaks, rests, none, also}
-use Rattle.rack.specs.Outcome.{ofFile, NoneSays, NoneRests, holding, zeroed}
+use Rattle.rack.specs.Layout.{zeroCase, ReadsAs}
+use Rattle.rack.specs.Refusal.{Own, readerOrder, writerOrder, verdictOrder, listingOrder, replayOrder, none, also}
+use Rattle.rack.specs.Outcome.{ofFile, NoneSays, NoneRests, holding}
 use Rattle.rack.specs.CaseFileOutcome.{ReaderIs, logOffset, logStretch, Address, further, LogIs, noFile, WriterSays, no-file, room-short, WriterRests, some-file, room-long, WriterIs}
 use Rattle.rack.specs.CaseFileOutcome as file
 use Rattle.rack.specs.VerdictOutcome.{ofVerdict, Fits, TooLong, RunShort, matching-short, other-short, RunsFit, VerdictSays, none-explains, run-short}
@@ -33,7 +32,7 @@ use Rattle.rack.specs.declared.Verdict.the-variants as Verdict
 use Rattle.rack.specs.declared.Listed.{Listed}
 use Rattle.rack.specs.declared.Listed.the-variants as Listing
 use Rattle.rack.specs.declared.Replayed.{Replayed}
-use Rattle.rack.proofs.OneReading.{one-case, one-place, reads-or-breaks}
+use Rattle.rack.proofs.OneReading.{one-case, reads-or-breaks}
 use Rattle.rack.proofs.OneFirst.{first-one, next-one}
 use Rattle.rack.proofs.OneRefusal.{against, Apart, one-refusal, refuses-or-accepts}
 

@@ -1,6 +1,6 @@
 -- A file is read in one way: two readings of it end in the same. Assumes nothing.
-use Prim.Native.Nat.{ℕ, _+_, _≤_, _<_}
-use mathlib.Core.Path.{_≡_, refl, sym, ap, _∙_, subst}
+use Prim.Native.Nat.{ℕ, _+_, _≤_}
+use mathlib.Core.Path.{_≡_, refl, sym, subst}
 use mathlib.Core.Bool.{Bool, true, false, true≢false}
 use mathlib.Core.List.{List}
 use native.Mathlib.Omega.{arith}
@@ -10,7 +10,7 @@ use borrow.Author.Tests.{leb-true}
 use Rattle.walks.specs.Below.{pick}
 use Rattle.rack.specs.Bytes.{byte}
 use Rattle.rack.specs.Marks.{markOf, markAt, numberOf, follows, mayFollow}
-use Rattle.rack.specs.Layout.{FieldsAre, endAt, RecordIs, zeroCase, Ending, whole, broken, Reads, done, wrong, next, ReadAs, ReadsAs, BreaksAt}
+use Rattle.rack.specs.Layout.{RecordIs, zeroCase, Ending, whole, broken, Reads, done, wrong, next, ReadAs, ReadsAs, BreaksAt}
 use Rattle.rack.specs.declared.Case.{Case}
 use Rattle.rack.specs.declared.Mark.{Mark}
 use Rattle.rack.specs.declared.Mark.the-variants.{Nt, Tr, Pr, Ob, Pt, Px, Qf, Lg, En, Absent}

@@ -1,12 +1,11 @@
 -- Of a list of checks one is the first to speak, with one number beside it; and it does not speak where none does. Assumes nothing.
-use Prim.Native.Nat.{ℕ, _<_, _≤_}
-use mathlib.Core.Path.{_≡_, refl, sym, ap, _∙_, subst}
-use mathlib.Core.List.{List, [], _∷_}
+use Prim.Native.Nat.{ℕ}
+use mathlib.Core.Path.{_≡_, refl, sym, _∙_, subst}
+use mathlib.Core.List.{List}
 use native.Mathlib.Omega.{arith}
 use Rattle.walks.proofs.Few.{few-or-many}
 use Rattle.rack.specs.Refusal.{Own, Check, work-room, layout, cycle, pattern-count, pattern-cap, two-join, final-left, product-count, system-cap, own}
-use Rattle.rack.specs.Refusal.{patternMost, productMost, Question, OfCase, Speaks, Silent, FirstToSpeak, speaks, rests, AllSilent, none, also, Refuses, Accepts}
-use Rattle.rack.specs.Layout.{ReadsAs}
+use Rattle.rack.specs.Refusal.{patternMost, productMost, Question, OfCase, Speaks, Silent, speaks, rests, also, Refuses, Accepts}
 use Rattle.rack.specs.declared.Case.{Case}
 use Rattle.rack.proofs.OneReading.{one-case, one-place, reads-or-breaks}
 

@@ -1,6 +1,6 @@
 -- A test that settles that a file reads as a case, by reading it. Assumes nothing.
-use Prim.Native.Nat.{ℕ, zero, suc, _+_, _*_, _-_, _<_, _≤_}
-use mathlib.Core.Path.{_≡_, refl, sym, ap, _∙_, subst}
+use Prim.Native.Nat.{ℕ, zero, suc, _+_, _-_}
+use mathlib.Core.Path.{_≡_, refl, subst}
 use mathlib.Core.Bool.{Bool, true, false, _&&_, _||_}
 use mathlib.Core.List.{List, [], _∷_}
 use mathlib.Core.Logic.{_⊎_, inl, inr, ⊎-elim}
@@ -14,7 +14,7 @@ use Rattle.rack.specs.Bytes.{byte, atMost, rising, listAt, listEnd, List
 use Rattle.rack.specs.Bytes as bytes
 use Rattle.rack.specs.Marks.{markAt, numberOf, mayFollow}
 use Rattle.rack.specs.Records.{NetIs, netEnd, ArcsIs, PrIs, PairRises, QfIs, bounds, qfEnd, LgIs, observed}
-use Rattle.rack.specs.Layout.{FieldsAre, endAt, added, RecordIs, zeroCase, Ending, whole, Reads, done, next, ReadsAs}
+use Rattle.rack.specs.Layout.{FieldsAre, endAt, added, zeroCase, whole, Reads, done, next, ReadsAs}
 use Rattle.rack.specs.declared.Case.{Case}
 use Rattle.rack.specs.declared.Pairs.{Pairs}
 use Rattle.rack.specs.declared.Mark.{Mark}

@@ -1,18 +1,17 @@
 -- What replay's count means: just so many numbers of the run can be fired one by one, within the caps and the budget, and the next one cannot;
 -- and its test of explaining is the definition. Assumes nothing.
 use Prim.Native.Nat.{ℕ, zero, suc, _<_, _≤_}
-use mathlib.Core.Path.{_≡_, refl, sym, ap, _∙_, subst}
-use mathlib.Core.Bool.{Bool, true, false, _&&_}
+use mathlib.Core.Path.{_≡_, refl}
+use mathlib.Core.Bool.{Bool, true, false}
 use mathlib.Core.List.{List, [], _∷_}
 use native.Mathlib.Omega.{arith}
 use lib.ListN.{length, getD, take}
 use lib.Dec.{T}
 use Rattle.walks.specs.Below.{pick, same}
 use Rattle.walks.specs.Walk.{walks, ends}
-use Rattle.walks.proofs.Tests.{and-left, and-both, of-true, eq→same}
+use Rattle.walks.proofs.Tests.{and-both, of-true, eq→same}
 use Rattle.rack.specs.Follow.{ProductMarking, start, step}
-use Rattle.rack.specs.Reach.{productWithin}
-use Rattle.rack.specs.Run.{fires, runs, shown, logOf, Explains}
+use Rattle.rack.specs.Run.{runs, shown, logOf, Explains}
 use Rattle.rack.specs.Replay.{goesOn, firings, count, explains}
 use Rattle.rack.specs.declared.Case.{Case}
 

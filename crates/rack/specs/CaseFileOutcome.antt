@@ -1,7 +1,6 @@
 -- The outcomes of the reader, of the log call and of the writer.
 -- Assumes nothing.
 use Prim.Native.Nat.{ℕ, _+_, _-_, _<_, _≤_}
-use mathlib.Core.Path.{_≡_}
 use mathlib.Core.List.{List, []}
 use lib.ListN.{length}
 use Rattle.rack.specs.Bytes.{part}

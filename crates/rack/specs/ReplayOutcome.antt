@@ -4,7 +4,7 @@ use Prim.Native.Nat.{ℕ}
 use mathlib.Core.Bool.{false}
 use mathlib.Core.List.{List}
 use lib.ListN.{replicate}
-use Rattle.rack.specs.Follow.{ProductMarking, final}
+use Rattle.rack.specs.Follow.{final}
 use Rattle.rack.specs.Replay.{count, reached, reason, saysExplains}
 use Rattle.rack.specs.Layout.{ReadsAs}
 use Rattle.rack.specs.Refusal.{Refuses, Accepts, replayOrder}

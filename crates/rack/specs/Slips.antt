@@ -5,7 +5,7 @@ use Prim.Native.Nat.{ℕ}
 use mathlib.Core.List.{List, [], _∷_, _++_}
 use lib.ListN.{length}
 use Rattle.rack.specs.Bytes.{filled}
-use Rattle.rack.specs.Hub.{arc, Row, Call, verdict, Expected, faulty, safe, refused}
+use Rattle.rack.specs.Hub.{arc, Row, verdict, faulty, safe, refused}
 use Rattle.rack.specs.declared.Case.{Case}
 use Rattle.rack.specs.declared.Net.{Net}
 use Rattle.rack.specs.declared.Arcs.{Arcs}

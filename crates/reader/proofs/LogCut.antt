@@ -4,7 +4,7 @@ use mathlib.Core.List.{List, []}
 use Prim.Native.Nat.{ℕ, _+_, _-_}
 use native.Mathlib.Omega.{arith}
 use native.Mathlib.Nat.{add-sub-cancel-left}
-use lib.ListN.{length, take, drop}
+use lib.ListN.{take, drop}
 use Rattle.rack.specs.Bytes.{part}
 use Rattle.rack.specs.Layout.{ReadsAs, BreaksAt}
 use Rattle.rack.specs.CaseFileOutcome.{logOffset, logStretch, Address, LogIs, shown, refused}

@@ -1,7 +1,7 @@
 -- The whole list of a breadth-first search: none of the walks that lead to a state comes before the one that met it, so the first state of a
 -- kind was met by the first walk of that kind. Assumes nothing.
-use Prim.Native.Nat.{ℕ, zero, suc, _+_, _≤_, _<_}
-use mathlib.Core.Path.{_≡_, refl, sym, ap, _∙_, subst}
+use Prim.Native.Nat.{ℕ, _+_, _≤_, _<_}
+use mathlib.Core.Path.{_≡_, sym, ap, _∙_, subst}
 use mathlib.Core.Bool.{Bool}
 use mathlib.Core.List.{List, [], _∷_, _++_, append-assoc, append-nil}
 use mathlib.Core.Logic.{_⊎_, inl, inr, ⊎-elim}
@@ -9,7 +9,6 @@ use native.Mathlib.Omega.{arith}
 use lib.Dec.{T}
 use Rattle.walks.specs.Walk.{walks, ends}
 use Rattle.walks.specs.Order.{before}
-use Rattle.walks.specs.Grow.{Holds}
 use Rattle.walks.specs.Queue.{Met, Queue, First, Never}
 use Rattle.walks.proofs.Closed.{ends-snoc, walks-cons}
 use Rattle.walks.proofs.Grow.{split}

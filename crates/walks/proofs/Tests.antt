@@ -11,7 +11,7 @@ use native.Mathlib.Omega.{arith}
 use lib.ListN.{getD}
 use lib.Dec.{T, eqb, eqb→eq}
 use borrow.Author.Tests.{eq-eqb, eqb-true, eqb-false}
-use Rattle.walks.specs.Below.{pick, implies, allBelow, anyBelow, same}
+use Rattle.walks.specs.Below.{implies, allBelow, anyBelow, same}
 
 pub and-left : (a b : Bool) → T (a && b) → T a
 and-left true b t = tt

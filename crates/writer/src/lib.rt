@@ -23,7 +23,6 @@ use rack::REFUSED_LENT_ROOM;
 use rack::REFUSED_UNWRITABLE;
 use rack::Written;
 use reader::read_case;
-ghost use mathlib.Core.Path.{_≡_};
 ghost use Prim.Native.Nat.{_+_, _≤_};
 ghost use lib.ListN.{length};
 ghost use Rattle.rack.specs.Layout.{ReadsAs};

@@ -1,8 +1,8 @@
 // Bytes put into a room one after the other: each function puts some from a place on and answers the place after them.
 use reader::bytes::wide;
 ghost use mathlib.Core.Path.{_≡_};
-ghost use mathlib.Core.List.{[], _∷_, _++_};
-ghost use Prim.Native.Nat.{_+_, _*_, _≤_, _<_};
+ghost use mathlib.Core.List.{[], _∷_};
+ghost use Prim.Native.Nat.{_+_, _≤_, _<_};
 ghost use lib.ListN.{length, take};
 ghost use Rattle.rack.specs.Writing.{listed, cell, rowBytes};
 ghost use Rattle.writer.specs.Puts.{Puts};

@@ -1,6 +1,5 @@
 -- `judge::show` goes by whether some explanation matches. Assumes nothing.
 use Rattle.judge.proofs.KindLaws.{at-place, at-none}
-use native.Mathlib.Omega.{arith}
 use borrow.Author.Needs.{needs}
 use Rattle.judge.proofs.show.Statement.{statement}
 use Rattle.judge.proofs.show.Tie as tie

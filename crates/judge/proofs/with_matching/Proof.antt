@@ -1,6 +1,5 @@
 -- `judge::with_matching` shows the first matching explanation, and the first other one. Assumes nothing.
 use Rattle.judge.proofs.KindLaws.{at-place, at-none, show-matching-short, show-faulty, show-other-short, show-ambiguous}
-use native.Mathlib.Omega.{arith}
 use borrow.Author.Needs.{needs}
 use Rattle.judge.proofs.with_matching.Statement.{statement}
 use Rattle.judge.proofs.with_matching.Tie as tie

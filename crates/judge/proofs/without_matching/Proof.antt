@@ -1,6 +1,5 @@
 -- `judge::without_matching` shows the first other explanation. Assumes nothing.
 use Rattle.judge.proofs.KindLaws.{at-place, at-none, show-unexplained, show-safe-short, show-safe}
-use native.Mathlib.Omega.{arith}
 use borrow.Author.Needs.{needs}
 use Rattle.judge.proofs.without_matching.Statement.{statement}
 use Rattle.judge.proofs.without_matching.Tie as tie

@@ -1,9 +1,8 @@
 -- `listing::giving::copy` copies just the run's bytes. Assumes nothing.
 use Prim.Native.Nat.{_-_}
 use mathlib.Core.Path.{refl}
-use Rattle.listing.proofs.GivingLaws.{Copied, copied-none, copied-more, copied-all}
+use Rattle.listing.proofs.GivingLaws.{Copied, copied-more, copied-all}
 use borrow.Author.Needs.{needs}
-use native.Mathlib.Omega.{arith}
 use Rattle.listing.proofs.giving.copy.Statement.{statement}
 use Rattle.listing.proofs.giving.copy.Tie as tie
 use Rattle.listing.proofs.giving.copy.Reads as reads

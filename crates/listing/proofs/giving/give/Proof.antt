@@ -1,6 +1,5 @@
 -- `listing::giving::give` gives what was found, where the room is long enough. Assumes nothing.
 use Rattle.listing.proofs.GivingLaws.{short-run, gives-end, gives-short, gives-matching, gives-other}
-use native.Mathlib.Omega.{arith}
 use borrow.Author.Needs.{needs}
 use Rattle.listing.proofs.giving.give.Statement.{statement}
 use Rattle.listing.proofs.giving.give.Tie as tie
