@@ -1,6 +1,6 @@
 // Giving a run that has been found, and the test of a given run.
+use plan::wide;
 use rack::LIMIT_MOST;
-use engine::wide;
 use rack::Listed;
 use rack::REFUSED_LENT_ROOM;
 use seek::Sought;
