@@ -13,7 +13,7 @@ use Rattle.rack.specs.declared.Case.{Case}
 use Rattle.rack.specs.declared.Reading.{Reading}
 use Rattle.rack.specs.declared.Outcome.the-variants as Outcome
 use Rattle.rack.proofs.WellFormed.{well-formed}
-use Rattle.engine.specs.Plan.{planned}
+use Rattle.plan.specs.Plan.{planned}
 use Rattle.reader.proofs.Given.{given-whole, given-refused}
 use Rattle.admit.specs.declared.Answer.{Answer}
 use Rattle.admit.specs.declared.Answer.the-variants.{Table, Refused}

@@ -11,7 +11,7 @@ use Rattle.rack.specs.Refusal.{NetsPass}
 use Rattle.rack.specs.NetChecks.{NetRefuses, NetAccepts, patternOrder, productOrder}
 use Rattle.rack.specs.Outcome.{zeroed}
 use Rattle.rack.specs.declared.Case.{Case}
-use Rattle.engine.specs.Plan.{planned}
+use Rattle.plan.specs.Plan.{planned}
 use Rattle.reach.specs.Table.{TableOf}
 use Rattle.admit.specs.declared.Answer.{Answer}
 use Rattle.admit.specs.declared.Answer.the-variants.{Table, Refused}

@@ -4,7 +4,7 @@
 // the line says so if one is not.
 use admit::Answer;
 use corpus::Taken;
-use engine::plan::PLAN;
+use plan::PLAN;
 use rack::WORK_ROOM;
 
 // What the room is full of beforehand.

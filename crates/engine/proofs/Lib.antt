@@ -4,8 +4,6 @@ pub mod Nets
 pub mod Outranking
 pub mod FlagLaws
 pub mod Following
-pub mod PlanLaws
-pub mod Putting
 pub mod JoiningLaws
 pub mod HereLaws
 pub mod Kept

@@ -1,5 +1,5 @@
 pub mod Firing
-pub mod Plan
+pub mod Markings
 pub mod Fits
 pub mod Here
 pub mod Position

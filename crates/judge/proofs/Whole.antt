@@ -9,7 +9,7 @@ use Rattle.rack.specs.Outcome.{zeroed}
 use Rattle.rack.specs.VerdictOutcome.{VerdictIs}
 use Rattle.rack.specs.declared.Case.{Case}
 use Rattle.rack.specs.declared.Judged.{Judged}
-use Rattle.engine.specs.Plan.{planned}
+use Rattle.plan.specs.Plan.{planned}
 use Rattle.steps.specs.Walkable.{Ready}
 use Rattle.search.specs.Found.{SearchSays}
 use Rattle.search.specs.declared.Searched.{Searched}

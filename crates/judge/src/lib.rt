@@ -2,8 +2,8 @@
 // the nodes that runs keeping to the log can be in, and shows the first explanation of each kind. What its answers mean stands in rack's
 // specs/VerdictOutcome.antt.
 use admit::Answer;
-use engine::plan::PLAN;
-use engine::plan::Plan;
+use plan::PLAN;
+use plan::Plan;
 use rack::Judged;
 use rack::REFUSED_LENT_ROOM;
 use rack::REFUSED_UNEXPLAINED;
@@ -15,7 +15,7 @@ ghost use mathlib.Core.Bool.{true, false};
 ghost use mathlib.Core.List.{List};
 ghost use Prim.Native.Nat.{ℕ};
 ghost use Rattle.rack.specs.VerdictOutcome.{VerdictIs};
-ghost use Rattle.engine.specs.Plan.{planned};
+ghost use Rattle.plan.specs.Plan.{planned};
 ghost use Rattle.steps.specs.Walkable.{Ready};
 ghost use Rattle.judge.specs.CaseJudged.{refusedBy, Shown};
 ghost use Rattle.judge.specs.Kinds.{KindAt, NoneOfKind, KindSays};

@@ -10,7 +10,7 @@ use Rattle.rack.specs.Outcome.{zeroed}
 use Rattle.rack.specs.ListingOutcome.{limitMost, ListingIs}
 use Rattle.rack.specs.declared.Listed.{Listed}
 use Rattle.rack.specs.declared.Listed.the-variants.{Refused}
-use Rattle.engine.specs.Plan.{planned}
+use Rattle.plan.specs.Plan.{planned}
 use Rattle.admit.specs.Admits.{of-layout, of-nets, short, of-file, Opened, OpenSays}
 use Rattle.admit.specs.declared.Answer.{Answer}
 use Rattle.admit.specs.declared.Answer.the-variants as Answer

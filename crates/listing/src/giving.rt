@@ -1,5 +1,5 @@
 // Giving a run that has been found, and the test of a given run.
-use engine::wide;
+use plan::wide;
 use rack::LIMIT_MOST;
 use rack::Listed;
 use rack::REFUSED_LENT_ROOM;

@@ -4,10 +4,10 @@
 use crate::giving::give_and_clear;
 use crate::giving::is_good;
 use admit::Answer;
-use engine::plan::PLAN;
-use engine::plan::Plan;
-use engine::plan::events;
-use engine::plan::transitions;
+use plan::PLAN;
+use plan::Plan;
+use plan::events;
+use plan::transitions;
 use rack::LIMIT_MOST;
 use rack::Listed;
 use rack::REFUSED_GIVEN_RUN;
@@ -22,7 +22,7 @@ ghost use Rattle.rack.specs.Listing.{from-start, after};
 ghost use Rattle.rack.specs.Outcome.{zeroed};
 ghost use Rattle.rack.specs.ListingOutcome.{ListingIs};
 ghost use Rattle.rack.specs.declared.Listed.the-variants.{Refused};
-ghost use Rattle.engine.specs.Plan.{planned, planSize};
+ghost use Rattle.plan.specs.Plan.{planned, planSize};
 ghost use Rattle.listing.specs.Barred.{Barred, BeginSays};
 ghost use Rattle.listing.specs.CaseListed.{Listing, ListedSays, LogSays};
 

@@ -1,12 +1,11 @@
 // Refusal 3: "priority pairs close a cycle, a pair of one transition with itself included".
-use engine::plan;
-use engine::plan::Plan;
+use plan::Plan;
 use rack::SystemTransition;
 ghost use Prim.Native.Nat.{_<_};
 ghost use Rattle.walks.specs.Says.{Says};
 ghost use Rattle.rack.specs.Refusal.{PairCycle};
 ghost use Rattle.rack.specs.WellFormed.{WellFormed};
-ghost use Rattle.engine.specs.Plan.{planned};
+ghost use Rattle.plan.specs.Plan.{planned};
 ghost use Rattle.pattern.specs.Chains.{Down};
 ghost use Rattle.pattern.specs.Outcome.{OpenSays};
 

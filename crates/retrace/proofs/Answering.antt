@@ -30,7 +30,7 @@ use Rattle.rack.proofs.Lift.{layout-rests, lift-refuses, lift-accepts}
 use Rattle.rack.proofs.Replaying.{count-is}
 use Rattle.rack.proofs.WellFormed.{well-formed, log-long}
 use Rattle.reader.proofs.Given.{given-whole}
-use Rattle.engine.specs.Plan.{productOf}
+use Rattle.engine.specs.Markings.{productOf}
 use Rattle.pattern.specs.Outcome.{CheckedSays}
 use Rattle.pattern.specs.declared.Checked.{Checked}
 use Rattle.pattern.specs.declared.Checked.the-variants as Checked

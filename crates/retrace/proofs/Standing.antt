@@ -25,7 +25,7 @@ use Rattle.rack.specs.declared.Stop.{Stop}
 use Rattle.rack.specs.declared.Stop.the-variants.{RunEnded, BudgetSpent, NotFirable, CapPassed}
 use Rattle.rack.proofs.Replaying.{Counted}
 use Rattle.engine.specs.Fits.{BothLow}
-use Rattle.engine.specs.Plan.{productOf}
+use Rattle.engine.specs.Markings.{productOf}
 use Rattle.engine.specs.Position.{positionAfter}
 use Rattle.engine.specs.declared.Product.{Product}
 use Rattle.engine.proofs.Kept.{within-tokens, step-system-length, step-pattern-length}

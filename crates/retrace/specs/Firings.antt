@@ -10,7 +10,7 @@ use Rattle.rack.specs.Keep.{keeps}
 use Rattle.rack.specs.Replay.{count, reached, reason}
 use Rattle.rack.specs.declared.Case.{Case}
 use Rattle.rack.specs.declared.Stop.{Stop}
-use Rattle.engine.specs.Plan.{productOf}
+use Rattle.engine.specs.Markings.{productOf}
 use Rattle.engine.specs.Position.{positionAfter}
 use Rattle.engine.specs.declared.Product.{Product}
 use Rattle.retrace.specs.declared.Fired.{Fired}

@@ -3,10 +3,9 @@
 // rack's specs/Replay.antt and specs/ReplayOutcome.antt.
 use crate::firing::fire;
 use engine::Product;
-use engine::plan;
-use engine::plan::PLAN;
-use engine::plan::Plan;
 use pattern::Checked;
+use plan::PLAN;
+use plan::Plan;
 use rack::Outcome;
 use rack::Replayed;
 use rack::Stop;
@@ -15,7 +14,7 @@ ghost use mathlib.Core.Bool.{_&&_};
 ghost use lib.Dec.{eqb};
 ghost use Rattle.rack.specs.WellFormed.{WellFormed};
 ghost use Rattle.rack.specs.ReplayOutcome.{ReplayIs, replayOf, replayRefused};
-ghost use Rattle.engine.specs.Plan.{planned};
+ghost use Rattle.plan.specs.Plan.{planned};
 
 mod firing; // firing.rt: the firings, one after the other
 

@@ -1,7 +1,7 @@
 -- `listing::first_of` lists a case that has been read. Assumes nothing.
 use mathlib.Core.Path.{refl}
 use Rattle.rack.specs.Listing.{from-start}
-use Rattle.engine.specs.Plan.{planned}
+use Rattle.plan.specs.Plan.{planned}
 use Rattle.steps.proofs.NodeLaws.{log-long}
 use Rattle.listing.specs.CaseListed.{shown}
 use Rattle.listing.proofs.Cases.{end-shown, seeking, found-short, found-shown, from-start-good, lists}

@@ -4,7 +4,7 @@ use mathlib.Core.Path.{refl, sym, _∙_, subst}
 use mathlib.Core.Bool.{true≢false}
 use borrow.Author.Tests.{not-true, not-false}
 use Rattle.rack.specs.Listing.{after}
-use Rattle.engine.specs.Plan.{planned}
+use Rattle.plan.specs.Plan.{planned}
 use Rattle.steps.proofs.NodeLaws.{log-long}
 use Rattle.walks.specs.Says.{Says}
 use Rattle.listing.specs.CaseListed.{bad, shown}

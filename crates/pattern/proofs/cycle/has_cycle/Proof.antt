@@ -5,7 +5,7 @@ use borrow.Author.Count.{below-more}
 use borrow.Author.Needs.{needs}
 use Rattle.walks.specs.Says.{Says}
 use Rattle.walks.proofs.Says.{says-yes, says-no, says-not}
-use Rattle.engine.specs.Plan.{planned}
+use Rattle.plan.specs.Plan.{planned}
 use Rattle.pattern.specs.Chains.{PairBack}
 use Rattle.pattern.proofs.Chaining.{pair-low, higher-low, lower-low, back-cycle, no-cycle}
 use Rattle.pattern.proofs.cycle.has_cycle.Statement.{statement}

@@ -5,7 +5,7 @@ use mathlib.Core.Path.{_≡_, subst}
 use native.Mathlib.Omega.{arith}
 use borrow.Author.Needs.{needs}
 use borrow.Author.Tests.{eqb-true, eq-eqb}
-use Rattle.engine.specs.Plan.{planned}
+use Rattle.plan.specs.Plan.{planned}
 use Rattle.pattern.specs.declared.cycle.Open.{Open}
 use Rattle.pattern.specs.declared.cycle.Open.the-variants.{At, Nothing}
 use Rattle.pattern.specs.Chains.{OpenAt}

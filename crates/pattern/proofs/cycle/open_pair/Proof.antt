@@ -7,7 +7,7 @@ use native.Mathlib.Omega.{arith}
 use borrow.Author.Count.{below-more}
 use borrow.Author.Needs.{needs}
 use lib.ListN.{getD}
-use Rattle.engine.specs.Plan.{planned}
+use Rattle.plan.specs.Plan.{planned}
 use Rattle.pattern.proofs.Chaining.{OpenPair, none-open, pair-low, higher-low, lower-low}
 use Rattle.pattern.proofs.cycle.open_pair.Statement.{statement}
 use Rattle.pattern.proofs.cycle.open_pair.Tie as tie

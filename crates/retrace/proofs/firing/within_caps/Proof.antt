@@ -3,7 +3,7 @@ use mathlib.Core.Path.{sym, _∙_}
 use borrow.Author.Needs.{needs}
 use borrow.Author.Tests.{not-true, not-false}
 use Rattle.rack.specs.Reach.{productWithin}
-use Rattle.engine.specs.Plan.{productOf}
+use Rattle.engine.specs.Markings.{productOf}
 use Rattle.retrace.proofs.firing.within_caps.Statement.{statement}
 use Rattle.retrace.proofs.firing.within_caps.Tie as tie
 
