@@ -1,19 +1,14 @@
 // A file: read and written again. Prints `same` and its length, or the refusal. Beside that it holds the log that is shown against the
 // log of the case.
 use corpus::Taken;
+use plan::wide;
 use rack::Case;
+use rack::LONGEST_FILE;
 use rack::Outcome;
 use rack::Written;
 
-// The length of the longest file, and of the longest log.
-const LONGEST_FILE: usize = 2496;
-
+// The length of the longest log.
 const LONGEST_LOG: usize = 40;
-
-// A byte as a number.
-fn wide(x: u8) -> usize {
-    x as usize
-}
 
 // What is said of a case that was written to a room, n bytes long.
 fn compare(room: &[u8; LONGEST_FILE], n: usize, file: &[u8]) {

@@ -31,9 +31,6 @@ pub record Copied (run : List ℕ) (m : ℕ) (room₀ : List ℕ) (i : ℕ) (roo
   pub long : length room ≡ length room₀
   pub is : room ≡ fronted run i room₀
 
-pub copied-none : (run : List ℕ) (m : ℕ) (room : List ℕ) → Copied run m room 0 room
-copied-none run m room = record { low = omega arith; long = refl; is = refl }
-
 pub copied-more : (run : List ℕ) (m : ℕ) (room₀ room : List ℕ) (i v : ℕ) → Copied run m room₀ i room → i < m → m ≤ length run → m ≤ length room₀ → v ≡ getD run i 0
     → length (set room i v) ≡ length room → Copied run m room₀ (i + 1) (set room i v)
 copied-more run m room₀ room i v h l r s e same =
