@@ -1,6 +1,7 @@
 // Reads a corpus: numbers of one, two or three bytes, the low byte first, and parts, each with its length in three bytes before it. The
 // second program writes the corpus, and what it says of each entry. Beside that: filling a room with a byte, and looking whether it still
-// holds it. What is read no contract can say: it comes from outside. The contracts fix what is known of it, and else the whole answer.
+// holds it. What is read no contract can say: it comes from outside. The contracts fix the range of what is
+// read, and all that `fill` and `still` do.
 ghost use mathlib.Core.Path.{_≡_};
 ghost use Prim.Native.Nat.{_<_};
 ghost use lib.ListN.{length, replicate};

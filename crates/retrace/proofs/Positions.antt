@@ -20,15 +20,9 @@ use Rattle.rack.proofs.Keep.{explains-kept, kept-explains}
 use Rattle.rack.proofs.Decide.{explains-of}
 use Rattle.rack.proofs.Replaying.{explains-yes}
 use Rattle.engine.specs.Position.{positionAfter}
+use Rattle.engine.proofs.Outranking.{both-ways}
 use Rattle.engine.proofs.PositionLaws.{Kept, position-kept, position-none}
 use Rattle.retrace.specs.Firings.{positionBy, positionOf}
-
--- two tests of which each passes where the other does
-both-ways : (a b : Bool) → (T a → T b) → (T b → T a) → a ≡ b
-both-ways true true f g = refl
-both-ways true false f g = absurd (f tt)
-both-ways false true f g = absurd (g tt)
-both-ways false false f g = refl
 
 module _ (c : Case) (long : length (logOf c) ≡ c .log .count) (few : c .log .count ≤ 40) where
   -- ---- once off the log, a run stays off it

@@ -191,19 +191,13 @@ fn fields() -> Vec<Memory> {
             all.push(with_slot(&great, field, field.slots() - 1, byte));
         }
     }
-    for field in [FirstTokens, PatternFirstTokens, Most] {
+    for field in [FirstTokens, PatternFirstTokens, Most, Least] {
         for byte in [0, 1, 2, 255] {
             all.push(with_slot(&small, field, 0, byte));
         }
         for byte in [15, 16] {
             all.push(with_slot(&great, field, field.slots() - 1, byte));
         }
-    }
-    for byte in [0, 1, 2, 255] {
-        all.push(with_slot(&small, Least, 0, byte));
-    }
-    for byte in [15, 16] {
-        all.push(with_slot(&great, Least, Least.slots() - 1, byte));
     }
     all
 }
