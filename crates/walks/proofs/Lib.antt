@@ -1,5 +1,6 @@
 pub mod Tests
 pub mod Says
+pub mod Tables
 pub mod Closed
 pub mod Explore
 pub mod Few
