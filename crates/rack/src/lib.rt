@@ -1,5 +1,8 @@
 // The rack: the case in memory and the answers of every call. What each of them means stands in specs/, beside the sentences of
-// document 01. A case keeps one struct for each kind of record; slots that a case does not use hold zeros.
+// document 01. A case keeps one struct for each kind of record; slots that a case does not use hold zeros. The only function here is
+// `wide`, which crates above need to index with a byte of a case.
+ghost use mathlib.Core.Path.{_≡_};
+ghost use Prim.Native.Nat.{_<_};
 
 // The refusal numbers, as `number` in specs/Refusal.antt has them.
 pub const REFUSED_WORK_ROOM: u8 = 1;
@@ -189,4 +192,11 @@ pub struct Replayed {
     pub matches: bool,
     pub stop: Stop,
     pub explains: bool,
+}
+
+// The byte x as a count or an index.
+pub fn wide(x: u8) -> usize
+    ensures { λ r. ⌜ (r ≡ x) × (r < 256) ⌝ }
+{
+    x as usize
 }

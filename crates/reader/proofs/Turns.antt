@@ -13,11 +13,11 @@ use Rattle.rack.specs.declared.Case.{Case}
 use Rattle.rack.specs.declared.Mark.{Mark}
 use Rattle.rack.specs.declared.Mark.the-variants.{Nt, Tr, Pr, Ob, Pt, Px, Qf, Lg, En, Absent}
 use Rattle.rack.proofs.OneReading.{mark-whole, ended}
-use Rattle.reader.specs.Answer.{Answers}
+use Rattle.records.specs.Answer.{Answers}
 use Rattle.reader.specs.RowsFit.{RowsFit}
-use Rattle.reader.specs.declared.Read.{Read}
-use Rattle.reader.specs.declared.Read.the-variants.{Good, Bad}
-use Rattle.reader.proofs.Answered.{good, bad}
+use Rattle.records.specs.declared.Read.{Read}
+use Rattle.records.specs.declared.Read.the-variants.{Good, Bad}
+use Rattle.records.proofs.Answered.{good, bad}
 
 -- a right record ends after its mark, within the file
 past : (m : Mark) (c : Case) (f : List ℕ) (a : ℕ) → a + 2 ≤ length f → FieldsAre m c f a → (a < endAt m c f a) × (endAt m c f a ≤ length f)

@@ -1,22 +1,17 @@
 // The reader of case files. read_case gives the case that a file holds, or refuses it with the place of its first wrong record; log_of
 // shows the log's labels where they stand in the file. Every file is taken, of any length. What a right file is stands in rack's
-// specs/Layout.antt, record by record in its specs/Records.antt.
-pub mod bytes;
-mod marks;
-mod records;
-mod slots;
-mod stretch;
-
-use bytes::wide;
-use marks::EN;
-use marks::NO_MARK;
-use marks::mark_at;
-use marks::may_follow;
-use marks::number_of;
+// specs/Layout.antt. The records one by one are left to the crates records and slots.
 use rack::Mark;
 use rack::Outcome;
 use rack::REFUSED_LAYOUT;
 use rack::Reading;
+use rack::wide;
+use records::EN;
+use records::NO_MARK;
+use records::Read;
+use records::mark_at;
+use records::may_follow;
+use records::number_of;
 use records::read_record;
 use slots::add_lg;
 use slots::add_nt;
@@ -30,12 +25,6 @@ use slots::zero_case;
 ghost use mathlib.Core.Path.{_≡_};
 ghost use Rattle.rack.specs.CaseFileOutcome.{ReaderIs, LogIs};
 ghost use Rattle.reader.specs.Answer.{refusal};
-
-// What reading a record answers: it is good, with the offset after it, or bad, with the refusal's place.
-enum Read {
-    Good(usize),
-    Bad(usize),
-}
 
 // Refusal 2 at a place, with the case of all zeros.
 fn refused(place: usize) -> Reading

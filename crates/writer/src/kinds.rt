@@ -11,7 +11,7 @@ use rack::Observable;
 use rack::Pairs;
 use rack::PatternArcs;
 use rack::PatternNet;
-use reader::bytes::wide;
+use rack::wide;
 ghost use mathlib.Core.List.{_∷_, _++_};
 ghost use Prim.Native.Nat.{_+_, _*_, _≤_, _<_};
 ghost use lib.ListN.{length};

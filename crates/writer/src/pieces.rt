@@ -1,5 +1,5 @@
 // Bytes put into a room one after the other: each function puts some from a place on and answers the place after them.
-use reader::bytes::wide;
+use rack::wide;
 ghost use mathlib.Core.Path.{_≡_};
 ghost use mathlib.Core.List.{[], _∷_};
 ghost use Prim.Native.Nat.{_+_, _≤_, _<_};

@@ -5,7 +5,7 @@ use lib.ListN.{length}
 use borrow.Author.Tests.{not-true, not-false}
 use Rattle.rack.specs.CaseFileOutcome.{read}
 use Rattle.rack.specs.Records.{PrIs, QfIs, LgIs}
-use Rattle.reader.proofs.Rows.{arcs-wider}
+use Rattle.slots.proofs.Rows.{arcs-wider}
 use Rattle.reader.proofs.Turns.{SoFar, start, left-over, all-read, long, wrong-mark, wrong-fields, Right, right-record}
 use Rattle.reader.proofs.Given.{refuses}
 use borrow.Author.Needs.{needs}
