@@ -16,7 +16,7 @@ use Rattle.rack.specs.declared.Outcome.the-variants as Reader
 use Rattle.rack.specs.declared.Reading.{Reading}
 use Rattle.rack.specs.declared.Written.the-variants as Writer
 use Rattle.rack.proofs.OneReading.{one-case, reads-or-breaks}
-use Rattle.writer.specs.Limits.{Limits}
+use Rattle.spelling.specs.Limits.{Limits}
 use Rattle.walks.specs.Says.{Says}
 use Rattle.walks.proofs.Says.{says-same}
 use Rattle.writer.proofs.RoundTrip.{written-read, read-limits}

@@ -21,10 +21,10 @@ use Rattle.rack.specs.declared.Written.the-variants as Writer
 use Rattle.rack.proofs.OneOutcome.{reader-one, writer-one}
 use Rattle.rack.proofs.WellFormed.{well-formed}
 use Rattle.reader.proofs.Given.{given-whole}
-use Rattle.writer.specs.Limits.{Limits}
-use Rattle.writer.proofs.Segments.{soFar, all-segments}
-use Rattle.writer.proofs.Kept.{Kept, kept-next, kept-first}
-use Rattle.writer.proofs.Lengths.{bytes-few}
+use Rattle.spelling.specs.Limits.{Limits}
+use Rattle.spelling.proofs.Segments.{soFar, all-segments}
+use Rattle.spelling.proofs.Kept.{Kept, kept-next, kept-first}
+use Rattle.spelling.proofs.Lengths.{bytes-few}
 
 from-here : (f : List ℕ) (k : ℕ) (c : Case) (a : ℕ) (e : Case) → Reads f k c a (whole e) → Kept f k c a → bytesOf e ≡ f
 from-here f k c a e (done u v) s = all-segments e ∙ sym (ap (λ (k : ℕ). soFar k e) u) ∙ s .bytes ∙ ap (λ (a : ℕ). take a f) v ∙ take-length f

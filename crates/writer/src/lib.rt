@@ -2,19 +2,17 @@
 // with the length that is needed, for a room that is too short. What it writes is read back first, so that no other case is ever written.
 // The bytes of a case stand in rack's specs/Writing.antt; that reading and writing undo each other, in proofs/RoundTrip.antt.
 mod compare;
-mod kinds;
-mod pieces;
 
 use compare::same_case;
-use kinds::push_lg;
-use kinds::push_nt;
-use kinds::push_ob;
-use kinds::push_pr;
-use kinds::push_pt;
-use kinds::push_px;
-use kinds::push_qf;
-use kinds::push_tr;
+use pieces::push_lg;
+use pieces::push_nt;
+use pieces::push_ob;
 use pieces::push_part;
+use pieces::push_pr;
+use pieces::push_pt;
+use pieces::push_px;
+use pieces::push_qf;
+use pieces::push_tr;
 use pieces::push_two;
 use rack::Case;
 use rack::LONGEST_FILE;
@@ -28,8 +26,9 @@ ghost use lib.ListN.{length};
 ghost use Rattle.rack.specs.Layout.{ReadsAs};
 ghost use Rattle.rack.specs.Writing.{bytesOf};
 ghost use Rattle.rack.specs.CaseFileOutcome.{longestFile, WriterIs};
-ghost use Rattle.writer.specs.Limits.{Limits};
-ghost use Rattle.writer.specs.Puts.{Puts, systemBytes, patternBytes};
+ghost use Rattle.spelling.specs.Limits.{Limits};
+ghost use Rattle.spelling.specs.Parts.{systemBytes, patternBytes};
+ghost use Rattle.pieces.specs.Puts.{Puts};
 ghost use Rattle.walks.specs.Says.{Says};
 
 // Whether the counts of a case are within the limits.

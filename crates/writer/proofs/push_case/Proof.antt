@@ -1,8 +1,8 @@
 -- `push_case` meets its contract. Assumes nothing.
 use borrow.Author.Needs.{needs}
 use native.Mathlib.Omega.{arith}
-use Rattle.writer.proofs.Putting.{puts-then, puts-as}
-use Rattle.writer.proofs.Lengths.{lg-few, system-few, pattern-few, bytes-parts}
+use Rattle.pieces.proofs.Putting.{puts-then, puts-as}
+use Rattle.spelling.proofs.Lengths.{lg-few, system-few, pattern-few, bytes-parts}
 use Rattle.writer.proofs.push_case.Statement.{statement}
 use Rattle.writer.proofs.push_case.Tie as tie
 

@@ -1,9 +1,9 @@
 -- `push_pattern` meets its contract. Assumes nothing.
 use borrow.Author.Needs.{needs}
 use native.Mathlib.Omega.{arith}
-use Rattle.writer.specs.Puts.{patternBytes}
-use Rattle.writer.proofs.Putting.{puts-then}
-use Rattle.writer.proofs.Lengths.{pt-few, links-few}
+use Rattle.spelling.specs.Parts.{patternBytes}
+use Rattle.pieces.proofs.Putting.{puts-then}
+use Rattle.spelling.proofs.Lengths.{pt-few, links-few}
 use Rattle.writer.proofs.push_pattern.Statement.{statement}
 use Rattle.writer.proofs.push_pattern.Tie as tie
 

@@ -1,9 +1,9 @@
 -- `push_system` meets its contract. Assumes nothing.
 use borrow.Author.Needs.{needs}
 use native.Mathlib.Omega.{arith}
-use Rattle.writer.specs.Puts.{systemBytes}
-use Rattle.writer.proofs.Putting.{puts-then}
-use Rattle.writer.proofs.Lengths.{nt-few, arcs-few, pairs-few}
+use Rattle.spelling.specs.Parts.{systemBytes}
+use Rattle.pieces.proofs.Putting.{puts-then}
+use Rattle.spelling.proofs.Lengths.{nt-few, arcs-few, pairs-few}
 use Rattle.writer.proofs.push_system.Statement.{statement}
 use Rattle.writer.proofs.push_system.Tie as tie
 

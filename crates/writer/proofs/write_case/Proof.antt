@@ -4,7 +4,7 @@ use borrow.Author.Needs.{needs}
 use native.Mathlib.Omega.{arith}
 use borrow.Author.Tests.{not-true}
 use lib.Seq.{length-take-le}
-use Rattle.writer.proofs.Putting.{puts-as, front-length, front-take, front-holds}
+use Rattle.pieces.proofs.Putting.{puts-as, front-length, front-take, front-holds}
 use Rattle.walks.proofs.Says.{says-not}
 use Rattle.writer.proofs.Telling.{part-holds}
 use Rattle.writer.proofs.Outcomes.{read-back, over-limits, answer-written, answer-short, answer-unwritable}

@@ -1,0 +1,12 @@
+pub mod Rows
+pub mod Spells
+pub mod Letters
+pub mod Repeats
+pub mod ArcRows
+pub mod Singles
+pub mod BoundRows
+pub mod TableRule
+pub mod Segments
+pub mod Kept
+pub mod Lengths
+pub mod Longest
