@@ -19,6 +19,12 @@ ghost use Rattle.rack.specs.Writing.{rowBytes, upTo, ntBytes, trBytes, prBytes,
 ghost use Rattle.spelling.specs.Parts.{netBytes, arcBytes, boundsAt};
 ghost use Rattle.pieces.specs.Puts.{Puts};
 
+// The two letters of a mark.
+struct Letters {
+    first: u8,
+    second: u8,
+}
+
 // Puts NT or PT, with the letters x and y.
 fn push_net(room: &mut [u8], at: usize, x: u8, y: u8, places: u8, cap: u8, first: &[u8]) -> usize
     requires { ⌜ (places ≤ length (now first)) × (at + 4 + places ≤ length (now room)) ⌝ }
@@ -47,12 +53,11 @@ pub fn push_pt(room: &mut [u8], at: usize, net: PatternNet) -> usize
     push_net(room, at, b'P', b'T', net.places, net.cap, &first)
 }
 
-// Puts one TR or PX, with the letters x and y: its label, and its inputs and outputs off the rows that begin at base.
+// Puts one TR or PX, with its letters: its label, and its inputs and outputs off the rows that begin at base.
 fn push_arc(
     room: &mut [u8],
     at: usize,
-    x: u8,
-    y: u8,
+    letters: Letters,
     label: u8,
     pre: &[u8],
     post: &[u8],
@@ -60,20 +65,19 @@ fn push_arc(
     width: u8,
 ) -> usize
     requires { ⌜ (base + width ≤ length (now pre)) × (base + width ≤ length (now post)) × (at + 5 + width + width ≤ length (now room)) ⌝ }
-    ensures { λ r. ⌜ Puts (now (room .entry)) at (now (room .exit)) r (x ∷ y ∷ label ∷ rowBytes (now (pre .entry)) base width ++ rowBytes (now (post .entry)) base width) ⌝ }
+    ensures { λ r. ⌜ Puts (now (room .entry)) at (now (room .exit)) r (letters .first ∷ letters .second ∷ label ∷ rowBytes (now (pre .entry)) base width ++ rowBytes (now (post .entry)) base width) ⌝ }
 {
-    let body = push_two(room, at, x, y);
+    let body = push_two(room, at, letters.first, letters.second);
     let inputs = push(room, body, label);
     let outputs = push_row(room, inputs, pre, base, width);
     push_row(room, outputs, post, base, width)
 }
 
-// Puts the TR or PX records of a net, with the letters x and y, off rows that are width wide.
+// Puts the TR or PX records of a net, with their letters, off rows that are width wide.
 fn push_arcs(
     room: &mut [u8],
     at: usize,
-    x: u8,
-    y: u8,
+    letters: Letters,
     count: u8,
     labels: &[u8],
     pre: &[u8],
@@ -81,14 +85,14 @@ fn push_arcs(
     width: u8,
 ) -> usize
     requires { ⌜ (count ≤ length (now labels)) × (count * width ≤ length (now pre)) × (count * width ≤ length (now post)) × (at + count * (5 + width + width) ≤ length (now room)) ⌝ }
-    ensures { λ r. ⌜ Puts (now (room .entry)) at (now (room .exit)) r (upTo count (arcBytes x y width (now (labels .entry)) (now (pre .entry)) (now (post .entry)))) ⌝ }
+    ensures { λ r. ⌜ Puts (now (room .entry)) at (now (room .exit)) r (upTo count (arcBytes (letters .first) (letters .second) width (now (labels .entry)) (now (pre .entry)) (now (post .entry)))) ⌝ }
 {
     let mut next = at;
     let mut base: usize = 0;
     let mut t: u8 = 0;
     while t < count {
         let label = labels[wide(t)];
-        next = push_arc(room, next, x, y, label, pre, post, base, width);
+        next = push_arc(room, next, letters, label, pre, post, base, width);
         base += wide(width);
         t += 1;
     }
@@ -103,7 +107,11 @@ pub fn push_tr(room: &mut [u8], at: usize, arcs: Arcs) -> usize
     let labels = arcs.labels;
     let pre = arcs.pre;
     let post = arcs.post;
-    push_arcs(room, at, b'T', b'R', arcs.count, &labels, &pre, &post, 16)
+    let letters = Letters {
+        first: b'T',
+        second: b'R',
+    };
+    push_arcs(room, at, letters, arcs.count, &labels, &pre, &post, 16)
 }
 
 // Puts the PX records.
@@ -114,7 +122,11 @@ pub fn push_px(room: &mut [u8], at: usize, arcs: PatternArcs) -> usize
     let labels = arcs.labels;
     let pre = arcs.pre;
     let post = arcs.post;
-    push_arcs(room, at, b'P', b'X', arcs.count, &labels, &pre, &post, 8)
+    let letters = Letters {
+        first: b'P',
+        second: b'X',
+    };
+    push_arcs(room, at, letters, arcs.count, &labels, &pre, &post, 8)
 }
 
 // Puts the PR records.

@@ -16,15 +16,15 @@ use Rattle.pieces.proofs.kinds.push_arcs.Statement.{statement}
 use Rattle.pieces.proofs.kinds.push_arcs.Tie as tie
 
 abbrev Inv-loop : tie.InvT-loop
-Inv-loop room₀ at x y count labels pre post width next₀ base₀ t₀ room next base t = (t ≤ count) × (base ≡ t * width) × (next ≤ at + t * (5 + width + width)) × Puts room₀ at room next (upTo t (arcBytes x y width labels pre post))
+Inv-loop room₀ at letters count labels pre post width next₀ base₀ t₀ room next base t = (t ≤ count) × (base ≡ t * width) × (next ≤ at + t * (5 + width + width)) × Puts room₀ at room next (upTo t (arcBytes (letters .first) (letters .second) width labels pre post))
 
 abbrev μ-loop : tie.MeasureT-loop
-μ-loop room₀ at x y count labels pre post width next₀ base₀ t₀ room next base t = count - t
+μ-loop room₀ at letters count labels pre post width next₀ base₀ t₀ room next base t = count - t
 
 loop-holds : tie.Need-loop-holds Inv-loop μ-loop
 loop-holds c =
     let a = c .before .before .before .before .args in
-    let g = arcBytes (a .x) (a .y) (a .width) (a .labels .now) (a .pre .now) (a .post .now) in
+    let g = arcBytes (a .letters .first) (a .letters .second) (a .width) (a .labels .now) (a .pre .now) (a .post .now) in
     (omega arith, omega arith, omega arith, puts-as (sym (upTo-none 0 g refl)) (puts-none (a .room .now) (a .at) (omega arith)))
 
 wide-requires : tie.Need-wide-requires Inv-loop μ-loop
@@ -70,8 +70,8 @@ loop-again c =
     let m = next-row (l .t) (5 + a .width + a .width) in
     let v = c .before .before .before .before .before .before .wide .ensures .0 in
     let rows : ℕ → List ℕ = λ b. rowBytes (a .pre .now) b (a .width) ++ rowBytes (a .post .now) b (a .width) in
-    let e = ap₂ (λ (k b : ℕ). a .x ∷ a .y ∷ getD (a .labels .now) k 0 ∷ rows b) v (l .inv .1) in
-    let g = arcBytes (a .x) (a .y) (a .width) (a .labels .now) (a .pre .now) (a .post .now) in (
+    let e = ap₂ (λ (k b : ℕ). a .letters .first ∷ a .letters .second ∷ getD (a .labels .now) k 0 ∷ rows b) v (l .inv .1) in
+    let g = arcBytes (a .letters .first) (a .letters .second) (a .width) (a .labels .now) (a .pre .now) (a .post .now) in (
       omega (arith, c .before .before .before .before .before .before .before .loop-test .taken),
       omega (arith, n, l .inv .1, c .wide2 .ensures),
       omega (arith, m, l .inv .2, p .ends, f),
@@ -86,7 +86,7 @@ returns c =
     let a = c .before .before .before .before .before .before .args in
     let l = c .before .loop in
     let e : l .t ≡ a .count = omega arith in
-    puts-as (ap (λ (k : ℕ). upTo k (arcBytes (a .x) (a .y) (a .width) (a .labels .now) (a .pre .now) (a .post .now))) e) (l .inv .3)
+    puts-as (ap (λ (k : ℕ). upTo k (arcBytes (a .letters .first) (a .letters .second) (a .width) (a .labels .now) (a .pre .now) (a .post .now))) e) (l .inv .3)
 
 pub push-arcs-spec : {M : Type 1} → statement M
 push-arcs-spec =
