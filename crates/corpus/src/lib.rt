@@ -2,8 +2,8 @@
 // second program writes the corpus, and what it says of each entry. Beside that: filling a room with a byte, and looking whether it still
 // holds it. What is read no contract can say: it comes from outside. The contracts fix the range of what is
 // read, and all that `fill` and `still` do.
+use rack::wide;
 ghost use mathlib.Core.Path.{_≡_};
-ghost use Prim.Native.Nat.{_<_};
 ghost use lib.ListN.{length, replicate};
 ghost use Rattle.walks.specs.Says.{Says};
 ghost use Rattle.corpus.specs.Takes.{TakenSays, ReadSays};
@@ -17,13 +17,6 @@ pub enum Taken {
 
 // What stands for a number where the corpus ends: more than three bytes hold, and more than any room has.
 pub const PAST: usize = 16777216;
-
-// A byte as a number.
-fn wide(x: u8) -> usize
-    ensures { λ r. ⌜ r < 256 ⌝ }
-{
-    x as usize
-}
 
 // Opens the corpus of the program that is run: a descriptor, or -1, as the system answers.
 pub fn open() -> i32 {

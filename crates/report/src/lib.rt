@@ -4,6 +4,7 @@ use rack::Net;
 use rack::PatternNet;
 use rack::Replayed;
 use rack::Stop;
+use rack::wide;
 ghost use mathlib.Core.Path.{_≡_};
 ghost use Prim.Native.Nat.{_≤_};
 ghost use lib.ListN.{take};
@@ -13,11 +14,6 @@ const PIECE: usize = 256;
 
 // No number has more decimal digits.
 const MOST_DIGITS: usize = 20;
-
-// A byte as a number.
-fn wide(x: u8) -> usize {
-    x as usize
-}
 
 // A number, with no blank or line end.
 pub fn number(n: usize) {
