@@ -1,10 +1,9 @@
 // Asks the proved calls every question of the corpus, and prints for each what the second program says of it: a line for each entry. An
-// entry begins with a byte for its kind; each kind has a module in corpus_cases or corpus_runs, which says what else its entries hold. A
-// further kind is a number, a module and an arm of `ask`.
+// entry begins with a byte for its kind; each kind has a module in corpus_cases or corpus_runs, or the crate corpus_writes, which says what
+// else its entries hold. A further kind is a number, a module and an arm of `ask`.
 use corpus::PAST;
 use corpus_cases::checks;
 use corpus_cases::files;
-use corpus_cases::writes;
 use corpus_runs::listings;
 use corpus_runs::replays;
 use corpus_runs::verdicts;
@@ -48,7 +47,7 @@ fn ask(
         VERDICTS => verdicts::ask(fd, file, run, other, work),
         LISTINGS => listings::ask(fd, file, given, run, work),
         REPLAYS => replays::ask(fd, given, file),
-        WRITES => writes::ask(fd, file, run),
+        WRITES => corpus_writes::ask(fd, file, run),
         _ => report::text(b"no such kind\n"),
     }
 }

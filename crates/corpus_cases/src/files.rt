@@ -1,11 +1,11 @@
 // A file: read and written again. Prints `same` and its length, or the refusal. Beside that it holds the log that is shown against the
 // log of the case.
 use corpus::Taken;
-use plan::wide;
 use rack::Case;
 use rack::LONGEST_FILE;
 use rack::Outcome;
 use rack::Written;
+use rack::wide;
 
 // The length of the longest log.
 const LONGEST_LOG: usize = 40;

@@ -1,9 +1,9 @@
--- `writes::with_room` is safe: the lent part is there. Assumes nothing.
+-- `with_room` is safe: the lent part is there. Assumes nothing.
 use mathlib.Core.Path.{sym}
 use lib.Seq.{length-take-le}
 use borrow.Author.Needs.{needs}
-use Rattle.corpus_cases.proofs.writes.with_room.Statement.{statement}
-use Rattle.corpus_cases.proofs.writes.with_room.Tie as tie
+use Rattle.corpus_writes.proofs.with_room.Statement.{statement}
+use Rattle.corpus_writes.proofs.with_room.Tie as tie
 
 returns : tie.Need-returns
 returns c = search needs

@@ -1,7 +1,9 @@
-// A case in memory, the room that is lent and the file that it must hold then: the writer. Prints `written` and the file's length, or the
+// The kind of the corpus that asks the writer: a case in memory, the room that is lent and the file that it must hold then. Prints `written` and the file's length, or the
 // refusal: 14 for a case that no file reads as, 11 with the length that is needed. The room is lent full of 170, a byte that no file has;
-// the line says so if the file is another one, or if anything beyond it has changed.
-use crate::memory;
+// the line says so if the file is another one, or if anything beyond it has changed. `ask` takes one entry and prints its line, as in
+// corpus_cases; where the corpus ends too early there is no line.
+mod memory;
+
 use corpus::Taken;
 use rack::Case;
 use rack::Written;
