@@ -1,4 +1,4 @@
--- A FILE OF THE LONGEST LENGTH: with `longest` of RoundTrip.antt, "The longest file has 2,496 bytes". Every count is at its limit, every place is an
+-- A FILE OF THE LONGEST LENGTH: with `longest` of writer's RoundTrip.antt, "The longest file has 2,496 bytes". Every count is at its limit, every place is an
 -- input and an output of every transition, and every label is observable. That it reads is settled by reading it. Assumes nothing.
 use Prim.Native.Nat.{ℕ, suc}
 use mathlib.Core.Path.{_≡_, refl}
