@@ -1,7 +1,8 @@
-//! An independent second program for the rules of 01, the scope paper: it reads
-//! case files, judges them, lists explanations and replays runs. It is written
-//! from 01 alone and by plain means (vectors, sets, searches over the whole
-//! graph), so that a slip on either side shows as a difference in the answers.
+//! An independent second program for the rules of 01, the scope paper, and of the
+//! requests in 02 that have landed: it reads case files, judges them, lists
+//! explanations and replays runs. It is written from those alone and by plain means
+//! (vectors, sets, searches over the whole graph), so that a slip on either side
+//! shows as a difference in the answers.
 
 pub mod answers;
 pub mod bench;
@@ -14,6 +15,7 @@ pub mod known;
 pub mod make;
 pub mod memory;
 pub mod net;
+pub mod packed;
 pub mod random;
 pub mod replay;
 
@@ -37,8 +39,8 @@ impl std::fmt::Display for Refusal {
     }
 }
 
-/// The slips that 01 lists. All are off in the program; only tests turn one on,
-/// to show that some case would give it away.
+/// The slips that 01 lists, and two that W-205 of 02 invites. All are off in the
+/// program; only tests turn one on, to show that some case would give it away.
 #[derive(Clone, Copy, Debug, Default, PartialEq, Eq)]
 pub struct Slips {
     /// An explanation ends with the log's last label: nothing silent after it.
@@ -51,4 +53,9 @@ pub struct Slips {
     pub marking_is_a_set: bool,
     /// The pattern may stay although it could follow.
     pub pattern_may_skip: bool,
+    /// Of the two places in a byte the first is in the low half.
+    pub halves_swapped: bool,
+    /// Tokens are counted in halves of bytes, and the cap is asked afterwards: 15
+    /// and one more are 0, with a carry into the place before.
+    pub cap_after_wrap: bool,
 }

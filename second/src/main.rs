@@ -15,7 +15,8 @@ use second::make;
 
 const USAGE: &str = "usage: second verdict | list LIMIT | next LIMIT [after N ...] \
                      | replay BUDGET N ... | rewrite | checks | make SEED COUNT DIR \
-                     | corpus DIR | compare SEED COUNT DIR | bench worst|deep LINES | bench long|hub|maze";
+                     | corpus DIR | compare SEED COUNT DIR | bench worst|deep|dense|ring LINES \
+                     | bench long|hub|maze";
 
 enum Command {
     Verdict,

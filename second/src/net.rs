@@ -1,7 +1,7 @@
 //! Nets and firing (01, "Nets and firing" and "How the pattern follows"). A
 //! marking counts tokens, place by place.
 
-use crate::case::{Bounds, Case, Net, Transition};
+use crate::case::{Bounds, Case, Net, Transition, MOST_CAP};
 use crate::Slips;
 
 pub type Marking = Vec<u32>;
@@ -75,8 +75,24 @@ pub fn fire(one: &Transition, marking: &Marking, slips: &Slips) -> Marking {
         } else {
             *tokens + 1
         };
+        if slips.cap_after_wrap {
+            carry(&mut after, usize::from(*place));
+        }
     }
     after
+}
+
+/// Only with the slip of asking the cap too late: a half of a byte that is past 15
+/// begins anew, and the place before has one token more; before the first there is
+/// none.
+fn carry(marking: &mut Marking, place: usize) {
+    if marking[place] > u32::from(MOST_CAP) {
+        marking[place] = 0;
+        if place > 0 {
+            marking[place - 1] += 1;
+            carry(marking, place - 1);
+        }
+    }
 }
 
 /// The cap is compared with a firing's result.

@@ -200,7 +200,7 @@ fn named_cases() {
 
 #[test]
 fn wrong_calls() {
-    let wrong: [&[&str]; 32] = [
+    let wrong: [&[&str]; 33] = [
         &[],
         &[""],
         &["help"],
@@ -231,6 +231,7 @@ fn wrong_calls() {
         &["bench"],
         &["bench", "worst"],
         &["bench", "worst", "41"],
+        &["bench", "ring"],
         &["bench", "hub", "4"],
         &["bench", "worst", "4", "4"],
     ];

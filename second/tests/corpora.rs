@@ -12,7 +12,7 @@ use second::judge::{self, Explanation, Listing, Rooms};
 use second::known::hub_case;
 use second::memory::Memory;
 use second::net::ProductMarking;
-use second::{checks, replay, Refusal, Slips};
+use second::{checks, packed, replay, Refusal, Slips};
 
 /// Made once for all tests here.
 fn corpus(kind: Kind) -> &'static Corpus {
@@ -106,7 +106,11 @@ fn answer(kind: Kind, entry: &[Part], slips: &Slips) -> String {
         (Kind::Checks, [Bytes(file), Bytes(table)]) => {
             let checked = checks::up_to_nine(file, slips);
             assert!(*slips != Slips::default() || table_is_of(table, &checked));
-            checked.map(|(_, product)| format!("accepted {}", product.markings.len()))
+            checked.map(|(_, product)| {
+                let same = packed::table(&product, slips) == *table;
+                let differs = if same { "" } else { ", table differs" };
+                format!("accepted {}{differs}", product.markings.len())
+            })
         }
         (Kind::Verdicts, [Number(matching), Number(other), Number(work), Bytes(file)]) => {
             let rooms = Rooms {
@@ -170,22 +174,35 @@ fn answer(kind: Kind, entry: &[Part], slips: &Slips) -> String {
     said.unwrap_or_else(|refusal| refusal.to_string())
 }
 
-/// Whether a table has a row for each reachable product marking, with 16 system
-/// places and 8 pattern places, and they rise; no row where the case is refused.
+/// Whether a table has a row of 12 bytes for each reachable product marking, with 16
+/// system places and 8 pattern places, two in a byte, and they rise; no row where the
+/// case is refused.
 fn table_is_of(table: &[u8], checked: &Result<(Case, Product), Refusal>) -> bool {
-    let rows: Vec<&[u8]> = table.chunks(24).collect();
+    let rows: Vec<&[u8]> = table.chunks(12).collect();
     let Ok((case, product)) = checked else {
         return rows.is_empty();
     };
-    let places = case.system.first_tokens.len();
-    let tokens = |bytes: &[u8]| bytes.iter().map(|byte| u32::from(*byte)).collect();
-    let marking = |row: &[u8]| ProductMarking {
-        system: tokens(&row[..places]),
-        pattern: tokens(&row[16..][..case.pattern.first_tokens.len()]),
+    let tokens = |row: &[u8]| {
+        let halves = row.iter().flat_map(|byte| [byte / 16, byte % 16]);
+        halves.map(u32::from).collect::<Vec<u32>>()
+    };
+    let marking = |row: &[u8]| {
+        let tokens = tokens(row);
+        let (system, system_unused) = tokens[..16].split_at(case.system.first_tokens.len());
+        let (pattern, pattern_unused) = tokens[16..].split_at(case.pattern.first_tokens.len());
+        assert!(system_unused
+            .iter()
+            .chain(pattern_unused)
+            .all(|one| *one == 0));
+        ProductMarking {
+            system: system.to_vec(),
+            pattern: pattern.to_vec(),
+        }
     };
     let listed: BTreeSet<ProductMarking> = rows.iter().map(|row| marking(row)).collect();
     let reached: BTreeSet<ProductMarking> = product.markings.iter().cloned().collect();
-    rows.is_sorted() && rows.len() == product.markings.len() && listed == reached
+    let in_order = rows.is_sorted() && rows.iter().map(|row| tokens(row)).is_sorted();
+    in_order && rows.len() == product.markings.len() && listed == reached
 }
 
 fn spaced<T: ToString>(numbers: &[T]) -> String {
@@ -297,7 +314,7 @@ fn the_table_of_01_comes_first() {
     for (entry, number) in entries(Kind::Verdicts).zip(1..=9) {
         let file = case::bytes(&hub_case(number));
         assert!(
-            matches!(&entry[..], [Number(2_048), Number(2_048), Number(57_344), Bytes(one)] if *one == file)
+            matches!(&entry[..], [Number(2_048), Number(2_048), Number(51_200), Bytes(one)] if *one == file)
         );
     }
     let listings = [
@@ -313,7 +330,8 @@ fn the_table_of_01_comes_first() {
     assert_eq!(lines(Kind::Listings)[..8], listings);
 }
 
-/// Each slip of 01 that a kind can show changes some line of its corpus.
+/// Each slip that a kind can show changes some line of its corpus; where the table
+/// is another, a program that has the slip says so in the line.
 #[test]
 fn each_slip_shows() {
     let right = Slips::default;
@@ -337,11 +355,19 @@ fn each_slip_shows() {
         pattern_may_skip: true,
         ..right()
     };
+    let swaps = Slips {
+        halves_swapped: true,
+        ..right()
+    };
+    let wraps = Slips {
+        cap_after_wrap: true,
+        ..right()
+    };
     for (kind, slips) in [
-        (Kind::Checks, vec![chain, set, skips]),
-        (Kind::Verdicts, vec![stops, idle, chain, set, skips]),
-        (Kind::Listings, vec![stops, chain, set, skips]),
-        (Kind::Replays, vec![chain, set]),
+        (Kind::Checks, vec![chain, set, skips, swaps, wraps]),
+        (Kind::Verdicts, vec![stops, idle, chain, set, skips, wraps]),
+        (Kind::Listings, vec![stops, chain, set, skips, wraps]),
+        (Kind::Replays, vec![chain, set, wraps]),
     ] {
         for slip in slips {
             let mut answers = entries(kind).zip(lines(kind));

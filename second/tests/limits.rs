@@ -107,22 +107,22 @@ fn rooms_for_the_shown_runs() {
 #[test]
 fn work_rooms() {
     let file = case::bytes(&hub(&[0, 3]));
-    assert_eq!(with_rooms(&file, 57_343, 3, 3), refused(1, 0));
+    assert_eq!(with_rooms(&file, 51_199, 3, 3), refused(1, 0));
     assert_eq!(
-        with_rooms(&file, 57_344, 3, 3),
+        with_rooms(&file, 51_200, 3, 3),
         ambiguous(&[0, 2, 4], &[0, 1, 3])
     );
-    assert_eq!(with_rooms(&[], 57_343, 3, 3), refused(1, 0));
+    assert_eq!(with_rooms(&[], 51_199, 3, 3), refused(1, 0));
     let slips = Slips::default();
     assert_eq!(
-        Listing::open(&file, 57_343, 25, &slips).err(),
+        Listing::open(&file, 51_199, 25, &slips).err(),
         refused::<()>(1, 0).err()
     );
     assert_eq!(
-        Listing::open(&file, 57_344, 25, &slips).err(),
+        Listing::open(&file, 51_200, 25, &slips).err(),
         refused::<()>(12, 0).err()
     );
-    assert!(Listing::open(&file, 57_344, 24, &slips).is_ok());
+    assert!(Listing::open(&file, 51_200, 24, &slips).is_ok());
 }
 
 #[test]

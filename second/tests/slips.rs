@@ -1,11 +1,13 @@
-//! Each slip of 01 is turned on, and some answer changes on a case of its own.
+//! Each slip is turned on, and some answer changes on a case of its own.
 
 mod common;
 use common::*;
 
-use second::case::{Case, Net};
+use second::case::{self, Case, Net};
+use second::corpus::halves;
 use second::known::{arcs, bounds, chain_final, chain_pattern, hub_case, pair};
-use second::Slips;
+use second::replay::{self, Stop};
+use second::{checks, packed, Slips};
 
 fn right() -> Slips {
     Slips::default()
@@ -110,4 +112,60 @@ fn letting_the_pattern_skip_an_event() {
     case.finals = vec![bounds(&[(0, 1), (0, 1), (1, 1)])];
     assert_eq!(slipped_verdict(&case, &right()), safe(&[0, 1]));
     assert_eq!(slipped_verdict(&case, &slip), ambiguous(&[0, 1], &[0, 1]));
+}
+
+#[test]
+fn swapping_the_halves_of_a_byte() {
+    let slip = Slips {
+        halves_swapped: true,
+        ..right()
+    };
+    let first_bytes = |case: &Case, slips: &Slips| -> Vec<u8> {
+        let checked = checks::up_to_nine(&case::bytes(case), slips);
+        let table = packed::table(&checked.expect("an accepted case").1, slips);
+        table.chunks(12).map(|row| row[0]).collect()
+    };
+    let taken = one_place(2, vec![arcs(0, &[0], &[])], &[]);
+    assert_eq!(first_bytes(&taken, &right()), [0x00, 0x10, 0x20]);
+    assert_eq!(first_bytes(&taken, &slip), [0x00, 0x01, 0x02]);
+    // The order is another one: two in the second place come before one in the first.
+    let (in_first, in_second) = (one_marking(&[1, 0]), one_marking(&[0, 2]));
+    let packed = |wide: &[u8; 24], slips: &Slips| packed::halved(wide, slips);
+    assert!(in_second < in_first);
+    assert!(packed(&in_second, &right()) < packed(&in_first, &right()));
+    assert!(packed(&in_second, &slip) > packed(&in_first, &slip));
+}
+
+/// A byte for each of 24 places: these counts, and no tokens in all others.
+fn one_marking(counts: &[u8]) -> [u8; 24] {
+    let mut wide = [0; 24];
+    wide[..counts.len()].copy_from_slice(counts);
+    wide
+}
+
+#[test]
+fn asking_the_cap_after_a_wrap() {
+    let slip = Slips {
+        cap_after_wrap: true,
+        ..right()
+    };
+    for side in halves::sides() {
+        // Up to 15 nothing shows; the one more is not refused any longer.
+        assert_eq!(
+            slipped_verdict(&side.within, &slip),
+            slipped_verdict(&side.within, &right())
+        );
+        let refused = Err(side.refusal);
+        assert_eq!(slipped_verdict(&side.past, &right()), refused);
+        assert_ne!(slipped_verdict(&side.past, &slip), refused);
+    }
+    // The 16th token leaves none, and one in the place before.
+    let mut case = one_place(0, vec![arcs(0, &[], &[1])], &[]);
+    case.system.cap = 15;
+    let fired = |slips: &Slips| {
+        let done = replay::replay(&case::bytes(&case), &[0; 16], 16, slips).expect("replayed");
+        (done.fired, done.marking.system, done.stop)
+    };
+    assert_eq!(fired(&right()), (15, vec![0, 15], Stop::CapPassed));
+    assert_eq!(fired(&slip), (16, vec![1, 0], Stop::RunEnded));
 }

@@ -8,7 +8,7 @@ use rack::WORK_ROOM;
 
 fn main() {
     let mut file = [0u8; LONGEST_FILE + 1];
-    let mut plan = [0u8; PLAN];
+    let mut plan = [0u64; PLAN];
     let mut work = [0u8; WORK_ROOM];
     let n = io::read_full(STDIN_FILENO, &mut file);
     let answer = admit::open(&file[..n], WORK_ROOM, &mut plan, &mut work);

@@ -31,7 +31,7 @@ fn refused(number: u8, beside: usize, work: &[u8]) {
 
 // The line of one entry.
 fn answer(file: &[u8], table: &[u8], work: &mut [u8]) {
-    let mut plan = [0u8; PLAN];
+    let mut plan = [0u64; PLAN];
     corpus::fill(work, FULL);
     let answer = admit::open(file, WORK_ROOM, &mut plan, work);
     match answer {

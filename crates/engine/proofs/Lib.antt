@@ -1,8 +1,10 @@
 pub mod Scans
 pub mod Firsts
-pub mod Nets
+pub mod NetWords
+pub mod BoundLaws
+pub mod PlanWords
 pub mod Outranking
-pub mod FlagLaws
+pub mod RankLaws
 pub mod Following
 pub mod JoiningLaws
 pub mod HereLaws

@@ -8,7 +8,7 @@ use lib.Seq.{take-append-seam}
 use Rattle.rack.specs.Outcome.{holding}
 use Rattle.rack.specs.Listing.{Asked, after, later, NextIs}
 use Rattle.rack.specs.ListingOutcome.{ListingIs}
-use Rattle.rack.specs.ListingOutcome.ListingIs.{matching, other, end, refused}
+use Rattle.rack.specs.ListingOutcome.ListingIsIn.{matching, other, end, refused}
 use Rattle.rack.specs.declared.Case.{Case}
 use Rattle.rack.specs.declared.Listed.{Listed}
 use Rattle.explanations.specs.Turns.{shownOf, rank, topRank, ShownSays, Comes, LaterSays}

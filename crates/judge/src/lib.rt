@@ -134,7 +134,7 @@ fn show<'r, 'a, 'm, 'o>(
 pub fn judge(file: &[u8], matching: &mut [u8], other: &mut [u8], work: &mut [u8]) -> Judged
     ensures { λ r. ⌜ VerdictIs (now (file .entry)) (now (matching .entry)) (now (other .entry)) (now (work .entry)) r (now (matching .exit)) (now (other .exit)) (now (work .exit)) ⌝ }
 {
-    let mut plan = [0u8; PLAN];
+    let mut plan = [0u64; PLAN];
     let answer = admit::open(file, WORK_ROOM, &mut plan, work);
     match answer {
         Answer::Refused(number, beside) => refused(number, beside),

@@ -5,3 +5,6 @@ pub mod FireLaws
 pub mod MaskLaws
 pub mod LaneLaws
 pub mod BitLaws
+pub mod SetLaws
+pub mod UnpackLaws
+pub mod MemberLaws

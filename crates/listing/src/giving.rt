@@ -1,8 +1,8 @@
 // Giving a run that has been found, and the test of a given run.
-use plan::wide;
 use rack::LIMIT_MOST;
 use rack::Listed;
 use rack::REFUSED_LENT_ROOM;
+use rack::wide;
 use seek::Sought;
 ghost use mathlib.Core.Path.{_≡_};
 ghost use Prim.Native.Nat.{_≤_};

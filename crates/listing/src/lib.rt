@@ -124,7 +124,7 @@ fn next_of<'a, 'g, 'o, 'w>(
 pub fn first(file: &[u8], limit: usize, room: &mut [u8], work: &mut [u8]) -> Listed
     ensures { λ r. ⌜ ListingIs (now (file .entry)) limit from-start (now (room .entry)) (now (work .entry)) r (now (room .exit)) (now (work .exit)) ⌝ }
 {
-    let mut plan = [0u8; PLAN];
+    let mut plan = [0u64; PLAN];
     let answer = begin(file, limit, &mut plan, work);
     match answer {
         Answer::Refused(number, beside) => Listed::Refused(number, beside),
@@ -136,7 +136,7 @@ pub fn first(file: &[u8], limit: usize, room: &mut [u8], work: &mut [u8]) -> Lis
 pub fn next(file: &[u8], limit: usize, given: &[u8], room: &mut [u8], work: &mut [u8]) -> Listed
     ensures { λ r. ⌜ ListingIs (now (file .entry)) limit (after (now (given .entry))) (now (room .entry)) (now (work .entry)) r (now (room .exit)) (now (work .exit)) ⌝ }
 {
-    let mut plan = [0u8; PLAN];
+    let mut plan = [0u64; PLAN];
     let answer = begin(file, limit, &mut plan, work);
     match answer {
         Answer::Refused(number, beside) => Listed::Refused(number, beside),

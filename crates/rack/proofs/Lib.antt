@@ -4,6 +4,7 @@ pub mod Accepted
 pub mod OneRefusal
 pub mod OneFirst
 pub mod OneOutcome
+pub mod TwoForms
 pub mod Bound
 pub mod Accept
 pub mod Lift

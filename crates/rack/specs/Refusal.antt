@@ -43,9 +43,9 @@ number product-count = 8
 number system-cap = 9
 number (own k) = ownNumber k
 
--- "work room is under 57,344 bytes"
+-- "work room is under 51,200 bytes"
 abbrev pub workRoom : ℕ
-workRoom = 57344
+workRoom = 51200
 
 -- "over 64 pattern markings are reachable in the pattern alone", "over 512 product markings are reachable"
 abbrev pub patternMost : ℕ

@@ -14,8 +14,13 @@ use Rattle.rack.specs.declared.Case.{Case}
 use Rattle.rack.specs.declared.Verdict.the-variants as Verdict
 use Rattle.rack.specs.declared.Judged.{Judged}
 
+-- what is asked where the work room must have `least` bytes, and what is asked today. The length stands apart, so that two lengths can be
+-- compared (proofs/TwoForms.antt).
+abbrev pub ofVerdictIn : ℕ → List ℕ → List ℕ → Question
+ofVerdictIn least f work = record { file = f; work = length work; needed = least }
+
 abbrev pub ofVerdict : List ℕ → List ℕ → Question
-ofVerdict f work = record { file = f; work = length work; needed = workRoom }
+ofVerdict = ofVerdictIn workRoom
 
 -- the first run of the kind k, if there is one, fits the room
 abbrev pub Fits : List ℕ → Bool → List ℕ → Type 0
@@ -48,21 +53,32 @@ pub data VerdictRests (f matching other : List ℕ) : Own → Type 0 where
   one-explains : OfCase f (λ c. (r : List ℕ) × Explains c r) → VerdictRests f matching other unexplained
   runs-fit : RunsFit f matching other → VerdictRests f matching other lent-room
 
+abbrev pub VerdictRefusesIn : ℕ → List ℕ → List ℕ → List ℕ → List ℕ → ℕ → ℕ → Type 0
+VerdictRefusesIn least f matching other work n m =
+    Refuses (ofVerdictIn least f work) (VerdictSays f matching other) (VerdictRests f matching other) verdictOrder n m
+
+abbrev pub VerdictAcceptsIn : ℕ → List ℕ → List ℕ → List ℕ → List ℕ → Type 0
+VerdictAcceptsIn least f matching other work = Accepts (ofVerdictIn least f work) (VerdictRests f matching other) verdictOrder
+
 abbrev pub VerdictRefuses : List ℕ → List ℕ → List ℕ → List ℕ → ℕ → ℕ → Type 0
-VerdictRefuses f matching other work n m = Refuses (ofVerdict f work) (VerdictSays f matching other) (VerdictRests f matching other) verdictOrder n m
+VerdictRefuses = VerdictRefusesIn workRoom
 
 abbrev pub VerdictAccepts : List ℕ → List ℕ → List ℕ → List ℕ → Type 0
-VerdictAccepts f matching other work = Accepts (ofVerdict f work) (VerdictRests f matching other) verdictOrder
+VerdictAccepts = VerdictAcceptsIn workRoom
 
 -- "the answer carries its kind together with both lengths; a run not shown has length 0. A shown run is one byte for each firing; room
 -- beyond it is unchanged." "A refusal changes no witness .. room .., and its lengths are 0."
--- A case file f, the matching run's room, the other run's room, the work room; the answer, and what the three rooms hold then.
-pub data VerdictIs (f matching other work : List ℕ) : Judged → List ℕ → List ℕ → List ℕ → Type 0 where
-  faulty : {c : Case} {r : List ℕ} → VerdictAccepts f matching other work → ReadsAs f c → IsFaulty c r
-      → VerdictIs f matching other work (record { verdict = Verdict.Faulty; matching = length r; other = 0 }) (holding r matching) other (zeroed work)
-  safe : {c : Case} {s : List ℕ} → VerdictAccepts f matching other work → ReadsAs f c → IsSafe c s
-      → VerdictIs f matching other work (record { verdict = Verdict.Safe; matching = 0; other = length s }) matching (holding s other) (zeroed work)
-  ambiguous : {c : Case} {r s : List ℕ} → VerdictAccepts f matching other work → ReadsAs f c → IsAmbiguous c r s
-      → VerdictIs f matching other work (record { verdict = Verdict.Ambiguous; matching = length r; other = length s }) (holding r matching) (holding s other) (zeroed work)
-  refused : {n m : ℕ} → VerdictRefuses f matching other work n m
-      → VerdictIs f matching other work (record { verdict = Verdict.Refused n m; matching = 0; other = 0 }) matching other (zeroed work)
+-- How long the work room must be; a case file f, the matching run's room, the other run's room, the work room; the answer, and what the three
+-- rooms hold then.
+pub data VerdictIsIn (least : ℕ) (f matching other work : List ℕ) : Judged → List ℕ → List ℕ → List ℕ → Type 0 where
+  faulty : {c : Case} {r : List ℕ} → VerdictAcceptsIn least f matching other work → ReadsAs f c → IsFaulty c r
+      → VerdictIsIn least f matching other work (record { verdict = Verdict.Faulty; matching = length r; other = 0 }) (holding r matching) other (zeroed work)
+  safe : {c : Case} {s : List ℕ} → VerdictAcceptsIn least f matching other work → ReadsAs f c → IsSafe c s
+      → VerdictIsIn least f matching other work (record { verdict = Verdict.Safe; matching = 0; other = length s }) matching (holding s other) (zeroed work)
+  ambiguous : {c : Case} {r s : List ℕ} → VerdictAcceptsIn least f matching other work → ReadsAs f c → IsAmbiguous c r s
+      → VerdictIsIn least f matching other work (record { verdict = Verdict.Ambiguous; matching = length r; other = length s }) (holding r matching) (holding s other) (zeroed work)
+  refused : {n m : ℕ} → VerdictRefusesIn least f matching other work n m
+      → VerdictIsIn least f matching other work (record { verdict = Verdict.Refused n m; matching = 0; other = 0 }) matching other (zeroed work)
+
+abbrev pub VerdictIs : List ℕ → List ℕ → List ℕ → List ℕ → Judged → List ℕ → List ℕ → List ℕ → Type 0
+VerdictIs = VerdictIsIn workRoom

@@ -34,7 +34,7 @@ pub const REFUSED_GIVEN_RUN: u8 = 13;
 pub const REFUSED_UNWRITABLE: u8 = 14;
 
 // How long the work room of the verdict and of the listing must be: `workRoom` in specs/Refusal.antt.
-pub const WORK_ROOM: usize = 57344;
+pub const WORK_ROOM: usize = 51200;
 
 // How many pattern markings and how many product markings may be reachable: `patternMost`, `productMost` in specs/Refusal.antt.
 pub const PATTERN_MOST: usize = 64;

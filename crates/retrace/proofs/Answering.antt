@@ -11,6 +11,7 @@ use lib.Dec.{T, eqb}
 use Rattle.walks.specs.Walk.{walks}
 use Rattle.walks.proofs.Tests.{and-left, and-both}
 use Rattle.walks.proofs.Closed.{walks-cons}
+use Rattle.lanes.specs.Lanes.{systemTokens, patternTokens}
 use Rattle.rack.specs.Follow.{ProductMarking, final, start, step}
 use Rattle.rack.specs.Outcome.{ofFile, NoneSays, NoneRests}
 use Rattle.rack.specs.CaseFileOutcome.{ReaderIs}
@@ -63,18 +64,19 @@ module _ {c : Case} (w : WellFormed c) where
 
   -- ---- the answer for a case whose nets have passed
 
-  pub answers : (run : List ℕ) (budget : ℕ) (r : Fired) {m x : Bool} → FiredSays c run budget r → m ≡ final c (r .marking .pattern .tokens)
+  pub answers : (run : List ℕ) (budget : ℕ) (r : Fired) {m x : Bool} {a b : List ℕ} → FiredSays c run budget r → m ≡ final c (patternTokens (r .marking .pattern .word))
+      → a ≡ systemTokens (r .marking .system .word) → b ≡ patternTokens (r .marking .pattern .word)
       → x ≡ (eqb (r .fired) (length run) && eqb (r .at) (c .log .count))
-      → _≡_ {A = Replayed} (record { fired = r .fired; system = r .marking .system .tokens; pattern = r .marking .pattern .tokens; matches = m; stop = r .stop; explains = x }) (replayOf c run budget)
+      → _≡_ {A = Replayed} (record { fired = r .fired; system = a; pattern = b; matches = m; stop = r .stop; explains = x }) (replayOf c run budget)
   unfolding replayOf productOf
-  answers run budget r {m} {x} f p q =
+  answers run budget r {m} {x} f p sys pat q =
       let t = f .there in
       let e : x ≡ saysExplains c run budget = q ∙ rw (f .counted, f .position) (ended-explains run budget) in
       λ j.
       record {
         fired = f .counted j;
-        system = t j .system;
-        pattern = t j .pattern;
+        system = (sys ∙ ap (λ (y : ProductMarking). y .system) t) j;
+        pattern = (pat ∙ ap (λ (y : ProductMarking). y .pattern) t) j;
         matches = (p ∙ ap (λ (y : ProductMarking). final c (y .pattern)) t) j;
         stop = f .stopped j;
         explains = e j;

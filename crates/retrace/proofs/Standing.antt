@@ -1,7 +1,7 @@
 -- How a replay stands after some firings, and what the firings come to where they end. Assumes nothing.
 use Prim.Native.Nat.{ℕ, zero, suc, _+_, _≤_, _<_}
 use mathlib.Core.Path.{_≡_, refl, sym, ap, _∙_, subst}
-use mathlib.Core.Bool.{Bool, true, false, true≢false}
+use mathlib.Core.Bool.{Bool, true, false, _&&_, true≢false}
 use mathlib.Core.List.{List, [], _∷_, _++_}
 use native.Mathlib.Numerals.{add-one}
 use native.Mathlib.Omega.{arith}
@@ -11,11 +11,12 @@ use lib.Seq.{take-suc}
 use lib.Dec.{T}
 use Rattle.walks.specs.Below.{pick}
 use Rattle.walks.specs.Walk.{walks, ends}
-use Rattle.walks.proofs.Tests.{and-left, and-right, and-both, of-true}
-use Rattle.walks.proofs.Closed.{walks-snoc, ends-snoc}
-use Rattle.rack.specs.Net.{within}
-use Rattle.rack.specs.Follow.{ProductMarking, labelOf, start, step}
-use Rattle.rack.specs.Reach.{productWithin}
+use Rattle.walks.proofs.Tests.{and-left, and-right, and-both, is-true, of-true}
+use Rattle.walks.proofs.Closed.{walks-snoc, ends-snoc, reaches-self}
+use Rattle.rack.specs.Net.{within, fired}
+use Rattle.rack.specs.Follow.{ProductMarking, patternFired, labelOf, start, step}
+use Rattle.rack.specs.Reach.{patternGoes, PatternReaches, productWithin}
+use Rattle.rack.specs.Refusal.{PatternOver}
 use Rattle.rack.specs.Run.{fires, end}
 use Rattle.rack.specs.Keep.{keeps}
 use Rattle.rack.specs.Replay.{goesOn, firings, count, reached, reasonAfter, reason}
@@ -23,6 +24,7 @@ use Rattle.rack.specs.WellFormed.{WellFormed}
 use Rattle.rack.specs.declared.Case.{Case}
 use Rattle.rack.specs.declared.Stop.{Stop}
 use Rattle.rack.specs.declared.Stop.the-variants.{RunEnded, BudgetSpent, NotFirable, CapPassed}
+use Rattle.rack.proofs.Accepted.{followed, pattern-within}
 use Rattle.rack.proofs.Replaying.{Counted}
 use Rattle.engine.specs.Fits.{BothLow}
 use Rattle.engine.specs.Markings.{productOf}
@@ -40,7 +42,7 @@ pub record Standing (c : Case) (run : List ℕ) (budget : ℕ) (m : ProductMarki
   pub there : m ≡ ends (goesOn c) (step c) (start c) (take n run)
   pub position : at ≡ positionOf c (take n run)
   pub held : T (productWithin c m)
-  pub long : length (m .system) ≡ 16
+  pub follows : PatternReaches c (m .pattern)
   pub wide : length (m .pattern) ≡ 8
 
 -- ---- before the first firing
@@ -56,29 +58,53 @@ standing-start {c} run budget m w e =
       position = refl;
       held = subst (λ (x : ProductMarking). T (productWithin c x)) (sym e)
           (and-both (within 16 (c .net .cap) (c .net .first)) (within 8 (c .pattern .cap) (c .pattern .first)) (w .net .tokens-within) (w .pattern .tokens-within));
-      long = ap (λ (x : ProductMarking). length (x .system)) e ∙ w .net .long;
+      follows = subst (λ (x : ProductMarking). PatternReaches c (x .pattern)) (sym e) (reaches-self (patternGoes c) (patternFired c) (c .pattern .first));
       wide = ap (λ (x : ProductMarking). length (x .pattern)) e ∙ w .pattern .long;
     }
 
 -- ---- one firing more
 
+-- a test beside one that passes
+and-yes : (a b : Bool) → b ≡ true → (a && b) ≡ a
+and-yes true b e = e
+and-yes false b e = refl
+
 module _ {c : Case} {run : List ℕ} {budget : ℕ} {m : ProductMarking} {at n : ℕ} (s : Standing c run budget m at n) where
-  -- the tokens leave room for a firing
-  pub standing-low : WellFormed c → BothLow m
+  -- the system is within its cap
+  pub system-held : T (within 16 (c .net .cap) (m .system))
   unfolding productWithin
-  standing-low w =
-      let a = within 16 (c .net .cap) (m .system) in
-      let b = within 8 (c .pattern .cap) (m .pattern) in
+  system-held = and-left (within 16 (c .net .cap) (m .system)) (within 8 (c .pattern .cap) (m .pattern)) (s .held)
+
+  -- where the marking after a firing is within the caps, its tokens fit
+  pub step-low : (t : ℕ) → WellFormed c → T (productWithin c (step c m t)) → BothLow (step c m t)
+  unfolding productWithin
+  step-low t w h =
+      let x = step c m t in
+      let a = within 16 (c .net .cap) (x .system) in
+      let b = within 8 (c .pattern .cap) (x .pattern) in
       record {
-        system = within-tokens 16 (c .net .cap) (m .system) (s .long) (w .net .cap-low) (and-left a b (s .held));
-        pattern = within-tokens 8 (c .pattern .cap) (m .pattern) (s .wide) (w .pattern .cap-low) (and-right a b (s .held));
+        system = within-tokens 16 (c .net .cap) (x .system) (step-system-length c m t) (w .net .cap-low) (and-left a b h);
+        pattern = within-tokens 8 (c .pattern .cap) (x .pattern) (step-pattern-length c m t (s .wide)) (w .pattern .cap-low) (and-right a b h);
       }
 
+  -- the pattern's part of the marking after a firing is reached in the pattern alone
+  pattern-follows : (PatternOver c → ⊥) → (t : ℕ) → PatternReaches c (step c m t .pattern)
+  unfolding step
+  pattern-follows kept t = followed c kept (m .pattern) (labelOf c t) (s .follows)
+
+  -- so it is within the pattern's cap, and the system's alone has to be asked
+  pub system-decides : WellFormed c → (PatternOver c → ⊥) → (t : ℕ) {r : Bool} → r ≡ within 16 (c .net .cap) (fired c (m .system) t) → r ≡ productWithin c (step c m t)
+  unfolding productWithin step
+  system-decides w kept t e =
+      let x = step c m t in
+      e ∙ sym (and-yes (within 16 (c .net .cap) (x .system)) (within 8 (c .pattern .cap) (x .pattern))
+      (is-true (within 8 (c .pattern .cap) (x .pattern)) (pattern-within c (w .pattern .tokens-within) (x .pattern) (pattern-follows kept t))))
+
   -- t is the next number of the run
-  pub standing-more : (m′ : ProductMarking) (at′ : ℕ) {t : ℕ} → n < length run → (n ≡ budget → ⊥) → t ≡ getD run n 0 → fires c m t ≡ true → m′ ≡ step c m t → T (productWithin c m′)
+  pub standing-more : (PatternOver c → ⊥) → (m′ : ProductMarking) (at′ : ℕ) {t : ℕ} → n < length run → (n ≡ budget → ⊥) → t ≡ getD run n 0 → fires c m t ≡ true → m′ ≡ step c m t → T (productWithin c m′)
       → at′ ≡ positionAfter c (labelOf c t) at → Standing c run budget m′ at′ (n + 1)
   unfolding goesOn positionOf positionBy
-  standing-more m′ at′ {t} l ne q f e h p =
+  standing-more kept m′ at′ {t} l ne q f e h p =
       let one : take (n + 1) run ≡ take n run ++ (t ∷ []) =
       ap (λ (k : ℕ). take k run) (add-one n) ∙ take-suc run n 0 l ∙ ap (λ (x : ℕ). take n run ++ (x ∷ [])) (sym q) in
       let on : T (goesOn c (ends (goesOn c) (step c) (start c) (take n run)) t) =
@@ -91,7 +117,7 @@ module _ {c : Case} {run : List ℕ} {budget : ℕ} {m : ProductMarking} {at n :
         there = e ∙ ap (λ (x : ProductMarking). step c x t) (s .there) ∙ sym (ap (ends (goesOn c) (step c) (start c)) one ∙ ends-snoc (goesOn c) (step c) (take n run) (start c) t);
         position = p ∙ ap (λ (x : ℕ). positionBy c x t) (s .position) ∙ sym (ap (ends (keeps c) (positionBy c) 0) one ∙ ends-snoc (keeps c) (positionBy c) (take n run) 0 t);
         held = h;
-        long = ap (λ (x : ProductMarking). length (x .system)) e ∙ step-system-length c m t;
+        follows = subst (λ (x : ProductMarking). PatternReaches c (x .pattern)) (sym e) (pattern-follows kept t);
         wide = ap (λ (x : ProductMarking). length (x .pattern)) e ∙ step-pattern-length c m t (s .wide);
       }
 

@@ -12,6 +12,7 @@ use rack::Stop;
 ghost use mathlib.Core.Path.{_≡_};
 ghost use mathlib.Core.Bool.{_&&_};
 ghost use lib.Dec.{eqb};
+ghost use Rattle.rack.specs.Refusal.{PatternOver};
 ghost use Rattle.rack.specs.WellFormed.{WellFormed};
 ghost use Rattle.rack.specs.ReplayOutcome.{ReplayIs, replayOf, replayRefused};
 ghost use Rattle.plan.specs.Plan.{planned};
@@ -53,14 +54,15 @@ fn both_ended(fired: usize, long: usize, at: usize, events: usize) -> bool
 // Replays a run on a case whose nets have passed the checks.
 fn replay(plan: &Plan, run: &[u8], budget: u16) -> Replayed
     requires { ⌜ WellFormed (planned (now plan)) ⌝ }
+    requires { ⌜ (PatternOver (planned (now plan)) → ⊥) ⌝ }
     ensures { λ r. ⌜ r ≡ replayOf (planned (now (plan .entry))) (now (run .entry)) budget ⌝ }
 {
     let done = fire(plan, run, budget as usize);
     let marking = done.marking;
     let system = marking.system;
     let pattern = marking.pattern;
-    let tokens = system.tokens;
-    let pattern_tokens = pattern.tokens;
+    let tokens = system.tokens();
+    let pattern_tokens = pattern.tokens();
     let fired = done.fired;
     let stop = done.stop;
     let matches = engine::is_final(plan, pattern);
@@ -85,7 +87,7 @@ pub fn retrace(file: &[u8], run: &[u8], budget: u16) -> Replayed
     match outcome {
         Outcome::Refused(number, place) => refused(number, place),
         Outcome::Whole => {
-            let mut plan = [0u8; PLAN];
+            let mut plan = [0u64; PLAN];
             plan::plan_of(&mut plan, reading.case);
             let checked = pattern::check_pattern(&plan);
             match checked {

@@ -2,11 +2,10 @@
 
 use super::faults::{fault_sets, with_faults};
 use super::sides::{self, BothSides};
-use super::{meanings, with_length, Entry};
-use crate::case::{self, MOST_PATTERN_PLACES, MOST_SYSTEM_PLACES};
+use super::{halves, meanings, with_length, Entry};
+use crate::case::{self, Case};
 use crate::known::{all_limits, hub_case, longest};
-use crate::net::{Marking, ProductMarking};
-use crate::{checks, make, Slips};
+use crate::{bench, checks, make, packed, Slips};
 
 const SEED: u64 = 0x6368_6563;
 const RANDOM: u64 = 1_000;
@@ -26,26 +25,12 @@ impl Entry for Checked {
     }
 }
 
-/// The reachable product markings in ascending order of their bytes, a row of 24
-/// bytes for each: the tokens of 16 system places, then those of 8 pattern
-/// places, with zeros for places that the case has not. Empty for a refusal.
+/// The reachable product markings as they are stored, 12 bytes for each, in
+/// ascending order of their bytes. Empty for a refusal.
 fn table(file: &[u8]) -> Vec<u8> {
-    let Ok((_, product)) = checks::up_to_nine(file, &Slips::default()) else {
-        return Vec::new();
-    };
-    let row = |marking: &ProductMarking| {
-        let system = padded(&marking.system, MOST_SYSTEM_PLACES);
-        [system, padded(&marking.pattern, MOST_PATTERN_PLACES)].concat()
-    };
-    let mut rows: Vec<Vec<u8>> = product.markings.iter().map(row).collect();
-    rows.sort();
-    rows.concat()
-}
-
-fn padded(marking: &Marking, places: u8) -> Vec<u8> {
-    let mut bytes: Vec<u8> = marking.iter().map(|tokens| *tokens as u8).collect();
-    bytes.resize(usize::from(places), 0);
-    bytes
+    let slips = Slips::default();
+    let checked = checks::up_to_nine(file, &slips);
+    checked.map_or(Vec::new(), |(_, product)| packed::table(&product, &slips))
 }
 
 pub fn entries() -> Vec<Checked> {
@@ -55,7 +40,21 @@ pub fn entries() -> Vec<Checked> {
     cases.extend(faulty.iter().map(|faults| with_faults(faults)));
     cases.extend(meanings::cases());
     cases.extend([longest(), all_limits(&[1], false), all_limits(&[1], true)]);
+    cases.extend(halves());
+    cases.extend([bench::dense(1), bench::ring(1)]);
     let by_hand = cases.iter().map(case::bytes);
     let random = (0..RANDOM).map(|index| make::file(SEED, index));
     by_hand.chain(random).map(Checked).collect()
+}
+
+/// One case of each net: the checks do not ask for the log.
+fn halves() -> Vec<Case> {
+    let mut cases: Vec<Case> = Vec::new();
+    for case in halves::cases() {
+        let same_net = |one: &Case| (&one.system, &one.pattern) == (&case.system, &case.pattern);
+        if !cases.iter().any(same_net) {
+            cases.push(case);
+        }
+    }
+    cases
 }

@@ -1,7 +1,7 @@
 //! Single calls of the listing, alone and one after another.
 
 use super::faults::{fault, fault_sets, with_faults, Fault};
-use super::{meanings, number, with_length, Entry};
+use super::{halves, meanings, number, with_length, Entry, WORK_ROOMS};
 use crate::case::{self, Case};
 use crate::judge::{Listing, Run, LEAST_WORK_ROOM, MOST_LIMIT};
 use crate::known::{all_limits, counter_case, hub, hub_case, longest, sequences};
@@ -12,6 +12,8 @@ const RANDOM: u64 = 300;
 const RANDOM_LIMIT: usize = make::LISTED_LIMIT as usize;
 /// No more calls than this for one random case.
 const MOST_CALLS: usize = 40;
+/// As long as a log of these cases may be, and one more than 15.
+const HALVES_LIMIT: usize = 16;
 /// Room for any run that the limit allows.
 const RUN_ROOM: usize = MOST_LIMIT as usize;
 /// The greatest limit that an entry can hold.
@@ -80,6 +82,11 @@ pub fn entries() -> Vec<Listed> {
     for case in meanings::cases() {
         all.extend(steps(case::bytes(&case), 3));
     }
+    all.extend(
+        halves()
+            .iter()
+            .map(|case| Listed::start(case::bytes(case), HALVES_LIMIT)),
+    );
     for index in 0..RANDOM {
         all.extend(steps(make::file(SEED, index), RANDOM_LIMIT));
     }
@@ -94,6 +101,13 @@ fn steps(file: Vec<u8>, limit: usize) -> Vec<Listed> {
         all.extend(given.map(|one| Listed::after(file.clone(), limit, &one.run)));
     }
     all
+}
+
+/// Those whose log the limit leaves room for.
+fn halves() -> Vec<Case> {
+    let mut cases = halves::cases();
+    cases.retain(|case| case.log.len() <= HALVES_LIMIT);
+    cases
 }
 
 fn limits() -> Vec<Listed> {
@@ -211,7 +225,7 @@ fn rooms() -> Vec<Listed> {
                 ..Listed::start(file.clone(), 24)
             });
         }
-        for work_room in [0, 57_343, 57_344, 60_000] {
+        for work_room in WORK_ROOMS {
             all.push(Listed {
                 work_room,
                 ..Listed::start(file.clone(), 24)

@@ -6,6 +6,7 @@
 mod checks;
 pub mod faults;
 mod files;
+pub mod halves;
 mod listings;
 mod meanings;
 mod replays;
@@ -98,6 +99,10 @@ fn gather<E: Entry>(kind: Kind, entries: Vec<E>) -> Corpus {
     }
     corpus
 }
+
+/// Lengths of work room: one byte too few and just enough, which was so of the two
+/// after them before W-205 of 02; none, and more.
+const WORK_ROOMS: [usize; 6] = [0, 51_199, 51_200, 57_343, 57_344, 60_000];
 
 /// A number in this many bytes, low byte first.
 fn number<const WIDTH: usize>(value: usize) -> [u8; WIDTH] {

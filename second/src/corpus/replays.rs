@@ -2,7 +2,7 @@
 
 use super::faults::{fault_sets, with_faults};
 use super::sides::{self, BothSides};
-use super::{meanings, number, with_length, Entry};
+use super::{halves, meanings, number, with_length, Entry};
 use crate::case::{self, Case, Net};
 use crate::judge::{self, Rooms, Run, LEAST_WORK_ROOM, RUN_ROOM};
 use crate::known::{
@@ -61,6 +61,12 @@ pub fn entries() -> Vec<Replayed> {
     for case in meanings::cases() {
         let explains = explanation(&case, RUN_ROOM).unwrap_or_default();
         let runs = [&explains, &[0][..], &[0, 0], &[1, 0], &[2]];
+        all.extend(runs.map(|run| Replayed::new(&case, run, MOST_BUDGET)));
+    }
+    for case in halves::cases() {
+        let explains = explanation(&case, RUN_ROOM).unwrap_or_default();
+        // One more than any place of it can give or take.
+        let runs = [&explains, &[0; 16][..]];
         all.extend(runs.map(|run| Replayed::new(&case, run, MOST_BUDGET)));
     }
     all.extend((0..RANDOM).map(random));

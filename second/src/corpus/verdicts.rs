@@ -2,14 +2,14 @@
 
 use super::faults::{fault, fault_sets, with_faults, Fault};
 use super::sides::{self, BothSides};
-use super::{meanings, number, with_length, Entry};
+use super::{halves, meanings, number, with_length, Entry, WORK_ROOMS};
 use crate::case::{self, Case};
 use crate::judge::{self, Rooms, LEAST_WORK_ROOM, RUN_ROOM};
 use crate::known::{
     all_limits, chain_final, chain_pattern, changed_hub, counter_case, hub, hub_case, longest,
     moves, pairs, priority_counter_case, sequences,
 };
-use crate::{make, Slips};
+use crate::{bench, make, Slips};
 
 const SEED: u64 = 0x7665_7264;
 const RANDOM: u64 = 2_000;
@@ -67,6 +67,8 @@ pub fn entries() -> Vec<Judged> {
     let limits = sides::of_checks().into_iter().flat_map(BothSides::cases);
     let cases = [meanings::cases(), limits.collect(), logs(), long_runs()].concat();
     all.extend(cases.iter().map(Judged::case));
+    all.extend(halves::cases().iter().map(Judged::case));
+    all.extend([bench::dense(40), bench::ring(40)].iter().map(Judged::case));
     all.extend((0..RANDOM).map(|index| Judged::file(make::file(SEED, index))));
     all
 }
@@ -97,7 +99,7 @@ fn work_rooms() -> Vec<Judged> {
         case::bytes(&longest()),
         vec![],
     ] {
-        for work in [0, 57_343, 57_344, 60_000] {
+        for work in WORK_ROOMS {
             let mut one = Judged::file(file.clone());
             one.rooms.work = work;
             all.push(one);

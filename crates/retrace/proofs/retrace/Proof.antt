@@ -1,6 +1,7 @@
 -- `retrace::retrace` makes the checks 2 to 7 of a file and replays the run where none speaks. Assumes nothing.
 use mathlib.Core.Path.{refl}
 use borrow.Author.Needs.{needs}
+use Rattle.pattern.proofs.Answers.{no-pattern-over}
 use Rattle.retrace.proofs.Answering.{layout-refuses, nets-refuse, nets-pass, file-well}
 use Rattle.retrace.proofs.retrace.Statement.{statement}
 use Rattle.retrace.proofs.retrace.Tie as tie
@@ -49,9 +50,11 @@ enum-told-2 c = search needs
 
 replay-requires : tie.Need-replay-requires
 replay-requires c κs =
-    let p = made (c .before .before .before) in
+    let a = c .before in
+    let k = a .before .before in
+    let p = made k in
     let w = whole p in
-    file-well (read w .read-case .ensures) (w .enum-told .given .1) (p .plan-of .ensures)
+    (file-well (read w .read-case .ensures) (w .enum-told .given .1) (p .plan-of .ensures), no-pattern-over (k .check-pattern .ensures) (a .enum-told2 .given .1))
 
 returns : tie.Need-returns
 returns c = layout-refuses (c .before .before .before .before .read-case .ensures) (c .before .before .outcome .given .1) (c .refused .ensures)

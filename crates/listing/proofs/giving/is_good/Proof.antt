@@ -30,7 +30,7 @@ wide-requires c κs = search needs
 returns-2 : tie.Need-returns-2 Inv-loop μ-loop
 returns-2 c =
     let x = c .before .before .before .before .before .before .before .args in
-    no-transition (x .given .now) (x .limit) (x .transitions) _ (c .before .before .before .loop-test .taken) (omega (arith, c .before .wide .ensures, c .if2 .taken))
+    no-transition (x .given .now) (x .limit) (x .transitions) _ (c .before .before .before .loop-test .taken) (omega (arith, c .before .wide .ensures .0, c .if2 .taken))
 
 add-i : tie.Need-add-i Inv-loop μ-loop
 add-i c = search needs
@@ -41,7 +41,7 @@ loop-less c = search needs
 loop-again : tie.Need-loop-again Inv-loop μ-loop
 loop-again c =
     let x = c .before .before .before .before .before .before .before .args in
-    looked-more (x .given .now) (x .limit) (x .transitions) _ (c .before .before .before .before .loop .inv) (omega (arith, c .before .wide .ensures, c .if2 .left))
+    looked-more (x .given .now) (x .limit) (x .transitions) _ (c .before .before .before .before .loop .inv) (omega (arith, c .before .wide .ensures .0, c .if2 .left))
 
 returns-3 : tie.Need-returns-3 Inv-loop μ-loop
 returns-3 c =
