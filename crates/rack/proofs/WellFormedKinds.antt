@@ -22,7 +22,8 @@ use Rattle.rack.specs.declared.Pairs.{Pairs}
 use Rattle.rack.specs.declared.Bounds.{Bounds}
 use Rattle.rack.specs.declared.Log.{Log}
 use Rattle.rack.proofs.WellFormedLists.{zeros, length-part, every-at, all-below, same-column, set-keeps, marked-keeps, length-marked, marked-other}
-use Rattle.rack.proofs.WellFormedLists.{length-filled, filled-in, filled-beyond, filled-keeps, length-table, table-at}
+use Rattle.rack.proofs.WellFormedLists.{length-filled, filled-in, filled-beyond, filled-keeps}
+use Rattle.walks.proofs.Tables.{length-table, table-at}
 use Rattle.rack.proofs.WellFormedLists.{Spot, before, inside, after, spot, length-put, put-before, put-after, put-both}
 
 -- ---- slots

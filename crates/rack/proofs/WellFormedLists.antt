@@ -4,13 +4,13 @@ use Prim.Native.Nat.{ℕ, zero, suc, _+_, _*_, _-_, _%_, _≤_, _<_}
 use mathlib.Core.Path.{_≡_, refl, sym, ap, _∙_, subst, subst₂}
 use mathlib.Core.Bool.{Bool, true, false, _&&_}
 use mathlib.Core.List.{List, [], _∷_, _++_}
-use native.Mathlib.Nat.{not-suc-le-zero, le-of-suc-le-suc, add-suc, suc-add, add-zero, mul-add-mod-self-right, mod-eq-of-lt}
+use native.Mathlib.Nat.{not-suc-le-zero, le-of-suc-le-suc, mul-add-mod-self-right, mod-eq-of-lt}
 use native.Mathlib.Omega.{arith}
 use lib.ListN.{length, getD, take, drop, set, replicate, length-append, length-drop, length-set, length-replicate, List·getD-append}
 use lib.Seq.{take-at, length-take-le, getD-append-add, getD-take, getD-drop, getD-set-other}
 use lib.Dec.{T, leb, ltb, leb→le, ltb→lt}
 use borrow.Author.Tests.{ltb-true, ltb-false}
-use Rattle.walks.specs.Below.{allBelow, every, tableFrom}
+use Rattle.walks.specs.Below.{allBelow, every}
 use Rattle.walks.proofs.Tests.{and-left, and-right, and-both, is-true, of-true}
 use Rattle.rack.specs.Bytes.{part, filled, put, rising, marked}
 
@@ -118,19 +118,6 @@ module _ (w : ℕ) (l : List ℕ) where
       go : (b : Bool) → ltb i (length l) ≡ b → P (getD (filled w l) i 0)
       go true e = let h = ltb-true i (length l) e in subst P (sym (filled-in i h)) (each i h)
       go false e = subst P (sym (filled-beyond i (ltb-false i (length l) e))) z
-
--- ---- a list by its entries
-
-pub length-table : (i n : ℕ) (f : ℕ → ℕ) → length (tableFrom i n f) ≡ n
-unfolding tableFrom
-length-table i zero f = refl
-length-table i (suc n) f = ap suc (length-table (suc i) n f)
-
-pub table-at : (i n : ℕ) (f : ℕ → ℕ) (j : ℕ) → j < n → getD (tableFrom i n f) j 0 ≡ f (i + j)
-unfolding tableFrom
-table-at i zero f j h = absurd (not-suc-le-zero h)
-table-at i (suc n) f zero h = ap f (sym (add-zero i))
-table-at i (suc n) f (suc j) h = table-at (suc i) n f j (le-of-suc-le-suc h) ∙ ap f (suc-add i j ∙ sym (add-suc i j))
 
 -- ---- a stretch put into a list
 

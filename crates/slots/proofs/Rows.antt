@@ -14,7 +14,8 @@ use Rattle.walks.specs.Below.{tableFrom}
 use Rattle.rack.specs.Bytes.{byte, part, filled, put, rising, listAt, ListIs}
 use Rattle.rack.specs.Records.{ArcsIs}
 use Rattle.rack.specs.Outcome.{holding}
-use Rattle.rack.proofs.WellFormedLists.{length-part, head-low, head-high, tail-rises, length-table, table-at}
+use Rattle.rack.proofs.WellFormedLists.{length-part, head-low, head-high, tail-rises}
+use Rattle.walks.proofs.Tables.{length-table, table-at}
 use Rattle.rack.proofs.Stretches.{getD-part}
 
 -- ---- copied to the front

@@ -10,7 +10,8 @@ use Rattle.rack.specs.Records.{leastAt, mostAt, QfIs, qfEnd, qfSays}
 use Rattle.rack.specs.Writing.{upTo, boundPair, qfBytes}
 use Rattle.rack.specs.WellFormed.{BoundsFit}
 use Rattle.rack.specs.declared.Bounds.{Bounds}
-use Rattle.rack.proofs.WellFormedLists.{length-table, table-at, put-before, put-inside}
+use Rattle.rack.proofs.WellFormedLists.{put-before, put-inside}
+use Rattle.walks.proofs.Tables.{length-table, table-at}
 use Rattle.rack.proofs.WellFormedKinds.{row-fits}
 use Rattle.spelling.proofs.Repeats.{upTo-same, upTo-more}
 use Rattle.spelling.proofs.Spells.{Spells, then, two, nothing}
