@@ -1,9 +1,12 @@
 // The numbers that a program's arguments spell in decimal digits.
+
+#![tactic(auto)]
+
 ghost use Rattle.std.specs.Prelude.{◌≡◌};
 ghost use Rattle.arguments.specs.Numbers.{spelled, NumberSays};
 
 // The number that an argument spells, or none that is asked for.
-#[derive(Drop)]
+#[derive(Clone, Copy)]
 pub enum Spelled {
     Number(usize),
     Nothing,

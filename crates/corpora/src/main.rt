@@ -1,6 +1,9 @@
 // Asks the proved calls every question of the corpus, and prints for each what the second program says of it: a line for each entry. An
 // entry begins with a byte for its kind; each kind has a module in corpus_cases or corpus_runs, or the crate corpus_writes, which says what
 // else its entries hold. A further kind is a number, a module and an arm of `ask`.
+
+#![tactic(auto)]
+
 use corpus::PAST;
 use corpus_cases::{checks, files};
 use corpus_runs::{listings, replays, verdicts};

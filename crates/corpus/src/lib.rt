@@ -2,6 +2,9 @@
 // second program writes the corpus, and what it says of each entry. Beside that: filling a room with a byte, and looking whether it still
 // holds it. What is read no contract can say: it comes from outside. The contracts fix the range of what is
 // read, and all that `fill` and `still` do.
+
+#![tactic(auto)]
+
 ghost use Rattle.std.specs.Prelude.{◌≡◌, length, replicate};
 ghost use Rattle.walks.specs.Says.{Says};
 ghost use Rattle.corpus.specs.Takes.{TakenSays, ReadSays};
@@ -10,7 +13,7 @@ ghost use Rattle.corpus.specs.Rooms.{Still};
 use rack::wide;
 
 // A part of the corpus was read into the room, so many bytes of it; or the corpus ends.
-#[derive(Drop)]
+#[derive(Clone, Copy)]
 pub enum Taken {
     Of(usize),
     Done,

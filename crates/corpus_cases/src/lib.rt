@@ -2,5 +2,8 @@
 // corpus_writes.
 // Each module says what its entries hold and what it prints; `ask` takes one entry and prints its line. Where the corpus ends too early
 // there is no line. A kind answers nothing: what it says it prints.
+
+#![tactic(auto)]
+
 pub mod checks;
 pub mod files;

@@ -10,7 +10,7 @@ const FULL: u8 = 170;
 const WORK_FULL: u8 = 255;
 
 // What is asked: the limit, whether after a given run and not from the start, and the lengths of the two rooms.
-#[derive(Drop)]
+#[derive(Clone, Copy)]
 struct Asking {
     limit: usize,
     after: bool,

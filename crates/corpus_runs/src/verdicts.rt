@@ -10,7 +10,7 @@ const FULL: u8 = 170;
 const WORK_FULL: u8 = 255;
 
 // The lengths of the rooms that are lent.
-#[derive(Drop)]
+#[derive(Clone, Copy)]
 struct Asking {
     matching: usize,
     other: usize,

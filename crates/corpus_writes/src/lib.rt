@@ -2,6 +2,9 @@
 // refusal: 14 for a case that no file reads as, 11 with the length that is needed. The room is lent full of 170, a byte that no file has;
 // the line says so if the file is another one, or if anything beyond it has changed. `ask` takes one entry and prints its line, as in
 // corpus_cases; where the corpus ends too early there is no line.
+
+#![tactic(auto)]
+
 mod memory;
 
 use corpus::Taken;

@@ -1,6 +1,9 @@
 // explanations LIMIT: reads a case file on standard input and prints a line for each explanation that is at most LIMIT long, in order: F (matching)
 // or C (other), its length, its numbers; then `end`; or one line that says why it is refused. It keeps one byte more than the longest file has. LIMIT
 // is any number of 64 bits, in at most 32 decimal digits. Any other call gets one line on standard error.
+
+#![tactic(auto)]
+
 ghost use Rattle.std.specs.Prelude.{◌≡◌, ◌≤◌, length};
 ghost use Rattle.explanations.specs.Turns.{shown_of, ShownSays, LaterSays};
 
@@ -9,7 +12,7 @@ use libc::{STDERR_FILENO, STDIN_FILENO};
 use rack::{LONGEST_FILE, Listed, WORK_ROOM};
 
 // A run of so many numbers was printed; or the last line was.
-#[derive(Drop)]
+#[derive(Clone, Copy)]
 enum Shown {
     Run(usize),
     Last,

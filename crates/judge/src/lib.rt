@@ -1,6 +1,9 @@
 // The verdict on a rack log: the call `judge`, over every file and every length of room. It opens the file (checks 1 to 9), searches
 // the nodes that runs keeping to the log can be in, and shows the first explanation of each kind. What its answers mean stands in rack's
 // specs/VerdictOutcome.antt.
+
+#![tactic(auto)]
+
 ghost use Rattle.std.specs.Prelude.{◌≡◌, true, false, List, ℕ};
 ghost use Rattle.rack.specs.VerdictOutcome.{VerdictIs};
 ghost use Rattle.plan.specs.Plan.{planned};

@@ -1,6 +1,9 @@
 // The listing of explanations: the calls `first` and `next`, over every file and every length of room. They open the file (checks 1, 12
 // and 2 to 9), look at the given run (13), work out what can still be finished in so many firings, and give the next explanation by a depth-first search.
 // What their answers mean stands in rack's specs/ListingOutcome.antt.
+
+#![tactic(auto)]
+
 ghost use Rattle.std.specs.Prelude.{◌≡◌, length};
 ghost use Rattle.rack.specs.Run.{log_of};
 ghost use Rattle.rack.specs.Listing.{from_start, after};

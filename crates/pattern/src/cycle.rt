@@ -11,7 +11,7 @@ use plan::Plan;
 use rack::SystemTransition;
 
 // A transition that is to be marked next: a pair leads to it from a marked one, and it has no mark yet.
-#[derive(Drop)]
+#[derive(Clone, Copy)]
 pub enum Open {
     At(SystemTransition),
     Nothing,

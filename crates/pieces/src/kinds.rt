@@ -8,7 +8,7 @@ use crate::{push, push_part, push_row, push_two};
 use rack::{Arcs, Bounds, Log, Net, Observable, Pairs, PatternArcs, PatternNet, wide};
 
 // The two letters of a mark.
-#[derive(Drop)]
+#[derive(Clone, Copy)]
 struct Letters {
     first: u8,
     second: u8,

@@ -1,5 +1,8 @@
 // Bytes put into a room one after the other: each function puts some from a place on and answers the place after them. The functions of module
 // kinds put all records of one kind. What the bytes are stands in rack's specs/Writing.antt.
+
+#![tactic(auto)]
+
 mod kinds;
 
 ghost use Rattle.std.specs.Prelude.{◌≡◌, [], ◌∷◌, ◌+◌, ◌≤◌, ◌<◌, length, take};

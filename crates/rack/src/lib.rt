@@ -1,6 +1,9 @@
 // The rack: the case in memory and the answers of every call. What each of them means stands in specs/, beside the sentences of
 // document 01. A case keeps one struct for each kind of record; slots that a case does not use hold zeros. The only function here is
 // `wide`, which crates above need to index with a byte of a case.
+
+#![tactic(auto)]
+
 ghost use Rattle.std.specs.Prelude.{◌≡◌, ◌<◌};
 
 // The refusal numbers, as `number` in specs/Refusal.antt has them.
@@ -47,7 +50,7 @@ pub const LIMIT_MOST: usize = 24;
 pub const LONGEST_FILE: usize = 2496;
 
 // NT: how many places the system has, its cap, and each place's first tokens.
-#[derive(Drop)]
+#[derive(Clone, Copy)]
 pub struct Net {
     pub places: u8,
     pub cap: u8,
@@ -56,7 +59,7 @@ pub struct Net {
 
 // TR: the system's transitions. Row t of pre and of post is 16 bytes wide, 1 where an arc stands and else 0: pre[t * 16 + p]
 // says whether place p is an input of transition t, post[t * 16 + p] whether it is an output.
-#[derive(Drop)]
+#[derive(Clone, Copy)]
 pub struct Arcs {
     pub count: u8,
     pub labels: [u8; 48],
@@ -65,7 +68,7 @@ pub struct Arcs {
 }
 
 // PR: the priority pairs; pair k says that transition higher[k] is above transition lower[k].
-#[derive(Drop)]
+#[derive(Clone, Copy)]
 pub struct Pairs {
     pub count: u8,
     pub higher: [u8; 32],
@@ -73,13 +76,13 @@ pub struct Pairs {
 }
 
 // OB: flags[e] is 1 where label e is observable, else 0.
-#[derive(Drop)]
+#[derive(Clone, Copy)]
 pub struct Observable {
     pub flags: [u8; 32],
 }
 
 // PT: as NT, for the pattern.
-#[derive(Drop)]
+#[derive(Clone, Copy)]
 pub struct PatternNet {
     pub places: u8,
     pub cap: u8,
@@ -87,7 +90,7 @@ pub struct PatternNet {
 }
 
 // PX: as TR, for the pattern, in rows that are 8 bytes wide.
-#[derive(Drop)]
+#[derive(Clone, Copy)]
 pub struct PatternArcs {
     pub count: u8,
     pub labels: [u8; 16],
@@ -96,7 +99,7 @@ pub struct PatternArcs {
 }
 
 // QF: bounds g ask of pattern place p that it holds from least[g * 8 + p] up to most[g * 8 + p] tokens.
-#[derive(Drop)]
+#[derive(Clone, Copy)]
 pub struct Bounds {
     pub count: u8,
     pub least: [u8; 64],
@@ -104,14 +107,14 @@ pub struct Bounds {
 }
 
 // LG: the labels of the log.
-#[derive(Drop)]
+#[derive(Clone, Copy)]
 pub struct Log {
     pub count: u8,
     pub labels: [u8; 40],
 }
 
 // A case. The system is net and arcs; the pattern is pattern (its places) and links (its arcs).
-#[derive(Drop)]
+#[derive(Clone, Copy)]
 pub struct Case {
     pub net: Net,
     pub arcs: Arcs,
@@ -124,14 +127,14 @@ pub struct Case {
 }
 
 // The number of a transition of the system, and the number of one of the pattern. Each net counts its own from zero.
-#[derive(Drop)]
+#[derive(Clone, Copy)]
 pub struct SystemTransition(pub usize);
 
-#[derive(Drop)]
+#[derive(Clone, Copy)]
 pub struct PatternTransition(pub usize);
 
 // The kind of a record, by its mark. Absent: no mark stands there.
-#[derive(Drop)]
+#[derive(Clone, Copy)]
 pub enum Mark {
     Nt,
     Tr,
@@ -147,27 +150,27 @@ pub enum Mark {
 
 // Reader: the file reads as the case, or is refused. A refusal carries its number and the number beside it, here as in every
 // other answer.
-#[derive(Drop)]
+#[derive(Clone, Copy)]
 pub enum Outcome {
     Whole,
     Refused(u8, usize),
 }
 
-#[derive(Drop)]
+#[derive(Clone, Copy)]
 pub struct Reading {
     pub outcome: Outcome,
     pub case: Case,
 }
 
 // Writer: how many bytes were written, or the refusal.
-#[derive(Drop)]
+#[derive(Clone, Copy)]
 pub enum Written {
     Bytes(usize),
     Refused(u8, usize),
 }
 
 // Verdict: its kind, and how long the shown runs are.
-#[derive(Drop)]
+#[derive(Clone, Copy)]
 pub enum Verdict {
     Faulty,
     Safe,
@@ -175,7 +178,7 @@ pub enum Verdict {
     Refused(u8, usize),
 }
 
-#[derive(Drop)]
+#[derive(Clone, Copy)]
 pub struct Judged {
     pub verdict: Verdict,
     pub matching: usize,
@@ -183,7 +186,7 @@ pub struct Judged {
 }
 
 // Listing: an explanation that matches or one that does not, with its length; the end; or the refusal.
-#[derive(Drop)]
+#[derive(Clone, Copy)]
 pub enum Listed {
     Matching(usize),
     Other(usize),
@@ -192,7 +195,7 @@ pub enum Listed {
 }
 
 // Replay: why it stopped.
-#[derive(Drop)]
+#[derive(Clone, Copy)]
 pub enum Stop {
     RunEnded,
     BudgetSpent,
@@ -203,7 +206,7 @@ pub enum Stop {
 
 // Replay: how many firings were made, the tokens of the system's and of the pattern's places after them, whether that is final (what was fired matches), why it
 // stopped, and whether the run explains the log.
-#[derive(Drop)]
+#[derive(Clone, Copy)]
 pub struct Replayed {
     pub fired: usize,
     pub system: [u8; 16],

@@ -1,6 +1,9 @@
 // The reader of case files. read_case gives the case that a file holds, or refuses it with the place of its first wrong record; log_of
 // shows the log's labels where they stand in the file. Every file is taken, of any length. What a right file is stands in rack's
 // specs/Layout.antt. The records one by one are left to the crates records and slots.
+
+#![tactic(auto)]
+
 ghost use Rattle.std.specs.Prelude.{◌≡◌};
 ghost use Rattle.rack.specs.CaseFileOutcome.{ReaderIs, LogIs};
 ghost use Rattle.reader.specs.Answer.{refusal};

@@ -2,6 +2,9 @@
 // fired, the marking then reached, whether that is final, why it stopped, and whether the run explains the log, each on a line; or one line
 // that says why it is refused. It keeps one byte more than the longest file has. BUDGET is 0 to 65535 and each N 0 to 255, in at most 32
 // decimal digits; there are at most 65,536 of the N, which is more than any budget. Any other call gets one line on standard error.
+
+#![tactic(auto)]
+
 ghost use Rattle.std.specs.Prelude.{◌≤◌, length};
 
 use arguments::{Spelled, argument};

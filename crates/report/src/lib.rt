@@ -1,4 +1,7 @@
 // How the programs print their answers on standard output.
+
+#![tactic(auto)]
+
 ghost use Rattle.std.specs.Prelude.{◌≡◌, ◌≤◌, take};
 
 use libc::STDOUT_FILENO;

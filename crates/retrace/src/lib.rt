@@ -1,6 +1,9 @@
 // Replay: fires the numbers of a given run one by one, from the initial marking of the case in a file, and says how many it fired, what it
 // reached and why it stopped. A run of any length and every budget from 0 to 65,535 are taken; no room is lent. What the answer is stands in
 // rack's specs/Replay.antt and specs/ReplayOutcome.antt.
+
+#![tactic(auto)]
+
 ghost use Rattle.std.specs.Prelude.{◌≡◌, ◌&&◌, eqb};
 ghost use Rattle.rack.specs.Refusal.{PatternOver};
 ghost use Rattle.rack.specs.WellFormed.{WellFormed};
@@ -16,7 +19,7 @@ use rack::{Outcome, Replayed, Stop};
 mod firing; // firing.rt: the firings, one after the other
 
 // What the firings of a run came to: how many they were, the marking after them, the position in the log, and why there was no other.
-#[derive(Drop)]
+#[derive(Clone, Copy)]
 struct Fired {
     pub fired: usize,
     pub marking: Product,

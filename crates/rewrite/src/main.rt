@@ -1,5 +1,8 @@
 // rewrite: reads a case file on standard input and writes the bytes that come of reading and writing it again, or one line that says why it
 // is refused. It keeps one byte more than the longest file has.
+
+#![tactic(auto)]
+
 use libc::STDIN_FILENO;
 use rack::{Case, LONGEST_FILE, Outcome, Written};
 

@@ -1,5 +1,8 @@
 // The slots of a case: what a right record puts into them. Each kind of record has a struct of its own in the case, so a record changes
 // that struct alone. What a record says stands in rack's specs/Records.antt; whether it is right, crate records tells.
+
+#![tactic(auto)]
+
 mod stores;
 
 ghost use Rattle.std.specs.Prelude.{◌≡◌, ◌+◌, ◌*◌, ◌≤◌, ◌<◌, length};

@@ -1,5 +1,8 @@
 // verdict: reads a case file on standard input and prints the verdict's word, then a line for each shown run: F (matching) or C (other), its
 // length, its numbers; or one line that says why it is refused. It keeps one byte more than the longest file has.
+
+#![tactic(auto)]
+
 use libc::STDIN_FILENO;
 use rack::{Judged, LONGEST_FILE, Verdict, WORK_ROOM};
 

@@ -1,6 +1,9 @@
 // The writer of case files. write_case puts the bytes of a case into a lent room, or refuses: 14 for a case that no file reads as, and 11,
 // with the length that is needed, for a room that is too short. What it writes is read back first, so that no other case is ever written.
 // The bytes of a case stand in rack's specs/Writing.antt; that reading and writing undo each other, in proofs/RoundTrip.antt.
+
+#![tactic(auto)]
+
 mod compare;
 
 ghost use Rattle.std.specs.Prelude.{◌+◌, ◌≤◌, length};
