@@ -1,0 +1,17 @@
+-- `records::stretch::all_within` meets its contract. The loop's invariant: the bytes that are left decide. Assumes nothing.
+use borrow.Author.Rules.{rules}
+use native.Mathlib.Omega.{arith}
+use Prim.Native.Nat.{◌-◌, ◌≤◌}
+use mathlib.Core.Path.{◌≡◌, refl}
+use lib.ListN.{drop}
+use borrow.Author.Tests.{le-leb, lt-leb}
+use Rattle.rack.specs.Bytes.{part, at_most}
+use Rattle.walks.specs.Below.{every}
+use Rattle.rack.proofs.Stretches.{every_turn, every_fails, every_ends}
+use Rattle.records.proofs.stretch.all_within.Given as goal
+
+abbrev pub invariant-loop-i : goal.invariant-loop-i
+invariant-loop-i l = (l.i ≤ l.count) × (every (at_most l.cap) (drop l.i (part l.file l.from l.count)) ≡ every (at_most l.cap) (part l.file l.from l.count))
+
+abbrev pub decreases-loop-i : goal.decreases-loop-i
+decreases-loop-i l = l.count - l.i
