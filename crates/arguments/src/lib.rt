@@ -93,12 +93,10 @@ fn stands(rt: &impl Env, i: usize) -> bool {
 
 // How many arguments there are, the program's name among them.
 pub fn count(rt: &impl Env) -> usize {
-    let mut i: usize = 0;
-    while i < usize::MAX {
+    for i in 0..usize::MAX {
         if !stands(rt, i) {
             return i;
         }
-        i += 1;
     }
-    i
+    usize::MAX
 }
