@@ -31,7 +31,7 @@ loop-t-smaller c =
     (let it : OpenSays (planned c.args.plan.now) c.loop-t.marks (At c.in-At.t) = subst (OpenSays (planned c.args.plan.now) c.loop-t.marks) c.in-At.is c.open_pair-found.ensures in it) in
     let next_low : c.in-At.t.0 < 48 =
     let o = next-open in omega (arith, o.is, lower_low c.requires.well_formed o.pair o.below) in
-    unmarked_less _ _ (omega (arith, next_low, c.loop-t.invariant.long)) (next-open).fresh
+    unmarked_less _ _ (omega (arith, next_low, c.loop-t.invariant.long)) next-open.fresh
 
 pub loop-t-preserved : goal.loop-t-preserved
 loop-t-preserved c =
@@ -40,7 +40,7 @@ loop-t-preserved c =
     (let it : OpenSays (planned c.args.plan.now) c.loop-t.marks (At c.in-At.t) = subst (OpenSays (planned c.args.plan.now) c.loop-t.marks) c.in-At.is c.open_pair-found.ensures in it) in
     let next_low : c.in-At.t.0 < 48 =
     let o = next-open in omega (arith, o.is, lower_low c.requires.well_formed o.pair o.below) in
-    spread_more c.loop-t.invariant _ (next_low) (next-open)
+    spread_more c.loop-t.invariant _ next_low next-open
 
 pub bounds-marks-last : goal.bounds-marks-last
 bounds-marks-last c = c.requires.from_bound.1
