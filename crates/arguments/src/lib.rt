@@ -1,4 +1,4 @@
-// The numbers that a program's arguments spell in decimal digits.
+// The numbers that a program's arguments spell in decimal digits, and how many arguments there are.
 
 #![tactic(auto)]
 
@@ -61,7 +61,7 @@ fn number(digits: &[u8], most: usize) -> Spelled
     Spelled::Number(value)
 }
 
-// The bytes that an argument puts into the room, which are none where it is missing or longer than the room.
+// How many bytes an argument puts at the front of the room: none where it is missing or longer than the room.
 fn bytes_of(rt: &impl Env, i: usize, room: &mut [u8; LONGEST]) -> usize
     ensures { result ≤ 32 }
 {
