@@ -1,5 +1,4 @@
 -- `records::fields::read_arcs` meets its contract: the inputs decide first, then the outputs. Assumes nothing.
-use borrow.Author.Rules.{rules}
 use native.Mathlib.Omega.{arith}
 use mathlib.Core.Path.{refl}
 use Rattle.records.proofs.Answered.{good, bad, arcs_rest}

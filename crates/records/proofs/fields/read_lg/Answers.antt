@@ -1,5 +1,4 @@
 -- `records::fields::read_lg` meets its contract. Assumes nothing.
-use borrow.Author.Rules.{rules}
 use native.Mathlib.Omega.{arith}
 use mathlib.Core.Path.{refl}
 use Rattle.records.proofs.Answered.{lg_is, lg_not}

@@ -1,5 +1,4 @@
 -- `records::fields::read_qf` meets its contract. Assumes nothing.
-use borrow.Author.Rules.{rules}
 use native.Mathlib.Omega.{arith}
 use mathlib.Core.Path.{refl}
 use Rattle.records.proofs.Answered.{qf_is, qf_not}

@@ -1,5 +1,4 @@
 -- `records::fields::read_record` meets its contract: each mark has its own reader. Assumes nothing.
-use borrow.Author.Rules.{rules}
 use mathlib.Core.Path.{refl}
 use Rattle.records.proofs.fields.read_record.Goals as goal
 

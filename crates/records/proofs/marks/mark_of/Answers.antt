@@ -1,12 +1,11 @@
 -- `records::marks::mark_of` meets its contract: each first letter by itself. Assumes nothing.
-use borrow.Author.Rules.{rules}
-use borrow.Author.Tests.{ne_eqb}
+use Rattle.std.proofs.Common.{tests, rules}
 use Rattle.rack.specs.Marks.{mark_of}
 use Rattle.records.proofs.marks.mark_of.Goals as goal
 
 pub returns-in-78 : goal.returns-in-78
 unfolding mark_of
-returns-in-78 c = rw c.in-78.is c.NOSTEP-with_Second.ensures
+returns-in-78 c = rw c.in-78.is c.with_second.ensures
 
 pub returns-in-84 : goal.returns-in-84
 unfolding mark_of
@@ -34,13 +33,4 @@ returns-in-69 c = rw c.in-69.is c.with_second-in-69.ensures
 
 pub returns-in_default : goal.returns-in_default
 unfolding mark_of
-returns-in_default c =
-    simp (
-      ne_eqb _ _ c.in_default.rest.0.0.0.0.0.0.1,
-      ne_eqb _ _ c.in_default.rest.0.0.0.0.0.1,
-      ne_eqb _ _ c.in_default.rest.0.0.0.0.1,
-      ne_eqb _ _ c.in_default.rest.0.0.0.1,
-      ne_eqb _ _ c.in_default.rest.0.0.1,
-      ne_eqb _ _ c.in_default.rest.0.1,
-      ne_eqb _ _ c.in_default.rest.1,
-    )
+returns-in_default c = search (tests, rules)

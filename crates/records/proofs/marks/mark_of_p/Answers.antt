@@ -1,5 +1,5 @@
 -- `records::marks::mark_of_p` meets its contract. Assumes nothing.
-use borrow.Author.Tests.{ne_eqb}
+use Rattle.std.proofs.Common.{tests, rules}
 use Rattle.rack.specs.Marks.{mark_of}
 use Rattle.records.proofs.marks.mark_of_p.Goals as goal
 
@@ -17,4 +17,4 @@ returns-in-88 c = rw c.in-88.is
 
 pub returns-in_default : goal.returns-in_default
 unfolding mark_of
-returns-in_default c = simp (ne_eqb _ _ c.in_default.rest.0.0.1, ne_eqb _ _ c.in_default.rest.0.1, ne_eqb _ _ c.in_default.rest.1)
+returns-in_default c = search (tests, rules)

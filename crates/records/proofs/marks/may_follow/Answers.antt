@@ -1,5 +1,4 @@
 -- `records::marks::may_follow` meets its contract: every entry of the table is that of the definition. Assumes nothing.
-use borrow.Author.Rules.{rules}
 use native.Mathlib.Omega.{arith}
 use Prim.Native.Nat.{ℕ}
 use mathlib.Core.Path.{ap}

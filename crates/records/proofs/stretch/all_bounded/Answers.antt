@@ -1,8 +1,6 @@
 -- `records::stretch::all_bounded` meets its contract. The loop's invariant: the bounds of the first p places are in order. Assumes nothing.
-use borrow.Author.Rules.{rules}
 use native.Mathlib.Omega.{arith}
-use Prim.Native.Nat.{ℕ, ◌-◌, ◌≤◌}
-use mathlib.Core.Bool.{true}
+use Prim.Native.Nat.{ℕ}
 use mathlib.Core.Path.{◌≡◌, sym, ap, ◌∙◌}
 use Rattle.walks.specs.Below.{all_below}
 use Rattle.records.proofs.Answered.{in_order, least_over, most_over}

@@ -1,12 +1,8 @@
 -- `records::stretch::all_bounded` meets its contract. The loop's invariant: the bounds of the first p places are in order. Assumes nothing.
-use borrow.Author.Rules.{rules}
-use native.Mathlib.Omega.{arith}
-use Prim.Native.Nat.{ℕ, ◌-◌, ◌≤◌}
+use Prim.Native.Nat.{◌-◌, ◌≤◌}
 use mathlib.Core.Bool.{true}
-use mathlib.Core.Path.{◌≡◌, sym, ap, ◌∙◌}
+use mathlib.Core.Path.{◌≡◌}
 use Rattle.walks.specs.Below.{all_below}
-use Rattle.records.proofs.Answered.{in_order, least_over, most_over}
-use Rattle.walks.proofs.Tests.{below_none, below_more, below_fails}
 use Rattle.rack.specs.Records.{bounds}
 use Rattle.records.proofs.stretch.all_bounded.Given as goal
 

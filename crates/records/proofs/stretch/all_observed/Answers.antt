@@ -1,11 +1,6 @@
 -- `records::stretch::all_observed` meets its contract. The loop's invariant: the labels that are left decide. Assumes nothing.
-use borrow.Author.Rules.{rules}
 use native.Mathlib.Omega.{arith}
-use Prim.Native.Nat.{◌-◌, ◌≤◌}
-use mathlib.Core.Path.{◌≡◌, refl, sym, ap, ◌∙◌}
-use lib.ListN.{drop}
-use Rattle.rack.specs.Bytes.{part}
-use Rattle.walks.specs.Below.{every}
+use mathlib.Core.Path.{refl, sym, ap, ◌∙◌}
 use Rattle.rack.proofs.Stretches.{every_turn, every_fails, every_ends}
 use Rattle.records.proofs.Answered.{no_label, silent_label, observable-label}
 use Rattle.rack.specs.Records.{observed}
@@ -25,12 +20,11 @@ returns-then-flags-label-ne1 c =
     (ap (observed c.args.flags.now) (sym c.wide-label.ensures.0) ∙ silent_label c.args.flags.now _ c.if-label-ge32.false c.if-flags-label-ne1.true)
 
 pub loop-i-preserved : goal.loop-i-preserved
-loop-i-preserved c =
-    (
-      omega arith,
-      every_turn c.args.file.now c.args.from c.args.count (omega arith) (observed c.args.flags.now) c.loop-i.i c.loop-i.invariant.1 (omega arith)
-          (ap (observed c.args.flags.now) (sym c.wide-label.ensures.0) ∙ observable-label c.args.flags.now _ c.if-label-ge32.false c.if-flags-label-ne1.false),
-    )
+loop-i-preserved c = (
+  omega arith,
+  every_turn c.args.file.now c.args.from c.args.count (omega arith) (observed c.args.flags.now) c.loop-i.i c.loop-i.invariant.1 (omega arith)
+      (ap (observed c.args.flags.now) (sym c.wide-label.ensures.0) ∙ observable-label c.args.flags.now _ c.if-label-ge32.false c.if-flags-label-ne1.false),
+)
 
 pub returns : goal.returns
 returns c = every_ends c.args.file.now c.args.from c.args.count (omega arith) (observed c.args.flags.now) c.loop-i.i c.loop-i.invariant.1 (omega arith)

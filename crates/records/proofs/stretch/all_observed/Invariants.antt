@@ -1,13 +1,9 @@
 -- `records::stretch::all_observed` meets its contract. The loop's invariant: the labels that are left decide. Assumes nothing.
-use borrow.Author.Rules.{rules}
-use native.Mathlib.Omega.{arith}
 use Prim.Native.Nat.{◌-◌, ◌≤◌}
-use mathlib.Core.Path.{◌≡◌, refl, sym, ap, ◌∙◌}
+use mathlib.Core.Path.{◌≡◌}
 use lib.ListN.{drop}
 use Rattle.rack.specs.Bytes.{part}
 use Rattle.walks.specs.Below.{every}
-use Rattle.rack.proofs.Stretches.{every_turn, every_fails, every_ends}
-use Rattle.records.proofs.Answered.{no_label, silent_label, observable-label}
 use Rattle.rack.specs.Records.{observed}
 use Rattle.records.proofs.stretch.all_observed.Given as goal
 

@@ -1,13 +1,9 @@
 -- `records::stretch::all_within` meets its contract. The loop's invariant: the bytes that are left decide. Assumes nothing.
-use borrow.Author.Rules.{rules}
-use native.Mathlib.Omega.{arith}
 use Prim.Native.Nat.{◌-◌, ◌≤◌}
-use mathlib.Core.Path.{◌≡◌, refl}
+use mathlib.Core.Path.{◌≡◌}
 use lib.ListN.{drop}
-use borrow.Author.Tests.{le-leb, lt-leb}
 use Rattle.rack.specs.Bytes.{part, at_most}
 use Rattle.walks.specs.Below.{every}
-use Rattle.rack.proofs.Stretches.{every_turn, every_fails, every_ends}
 use Rattle.records.proofs.stretch.all_within.Given as goal
 
 abbrev pub invariant-loop-i : goal.invariant-loop-i

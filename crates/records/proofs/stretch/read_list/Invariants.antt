@@ -1,13 +1,9 @@
 -- `records::stretch::read_list` meets its contract. The loop's invariant: the numbers that are left rise from low on exactly if the
 -- whole list rises. Assumes nothing.
-use borrow.Author.Rules.{rules}
-use native.Mathlib.Omega.{arith}
-use Prim.Native.Nat.{◌+◌, ◌-◌, ◌≤◌}
-use mathlib.Core.Path.{◌≡◌, refl}
+use Prim.Native.Nat.{◌-◌, ◌≤◌}
+use mathlib.Core.Path.{◌≡◌}
 use lib.ListN.{drop}
 use Rattle.rack.specs.Bytes.{part, rising}
-use Rattle.rack.proofs.Stretches.{rising_turn, rising_low, rising_high, rising_ends}
-use Rattle.records.proofs.Answered.{list_is, list_not}
 use Rattle.records.proofs.stretch.read_list.Given as goal
 
 abbrev pub invariant-loop-i : goal.invariant-loop-i

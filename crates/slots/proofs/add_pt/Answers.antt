@@ -1,0 +1,10 @@
+-- `slots::add_pt` meets its contract. Assumes nothing.
+use native.Mathlib.Omega.{arith}
+use Prim.Native.Nat.{◌+◌}
+use Rattle.slots.proofs.Rows.{stretch_fills}
+use Rattle.rack.specs.Records.{pt_says}
+use Rattle.slots.proofs.add_pt.Goals as goal
+
+pub returns : goal.returns
+unfolding pt_says
+returns c = rw (c.copy.ensures, stretch_fills 8 c.args.file.now (c.args.at + 4) c.wide.result (omega arith), c.wide.ensures.0)
