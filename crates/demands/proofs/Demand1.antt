@@ -13,7 +13,7 @@ use Rattle.rack.specs.Listing.{Asked}
 use Rattle.rack.specs.Bytes.{part}
 use Rattle.rack.specs.Layout.{case_of_zeros, BreaksAt}
 use Rattle.rack.specs.Replay.{count, reached, reason_after, reason}
-use Rattle.rack.specs.Refusal.{speaks}
+use Rattle.rack.specs.Refusal.{speaks, rests}
 use Rattle.rack.specs.Outcome.{zeroed}
 use Rattle.rack.specs.CaseFileOutcome.{ReaderRefuses, ReaderIs, Address, LogIs, WriterRefuses, WriterIs}
 use Rattle.rack.specs.CaseFileOutcome as file
@@ -65,6 +65,7 @@ demand_1_reader {f} {x} o =
 
 broken : {f : List ℕ} {n m : ℕ} → ReaderRefuses f n m → BreaksAt f m
 broken (speaks b) = b
+broken (rests _ o) = elim o [ ]
 
 pub demand_1_log : {f : List ℕ} {lent : Address} {l : List ℕ} {a : Address} → LogIs f lent l a → LogTaken f lent l a
 demand_1_log {f} {lent} {l} {a} o =
