@@ -5,7 +5,7 @@ use mathlib.Core.List.{List}
 use Prim.Native.Nat.{ℕ}
 use native.Mathlib.Omega.{arith}
 use Rattle.rack.specs.Layout.{ReadsAs, BreaksAt}
-use Rattle.rack.specs.Refusal.{speaks}
+use Rattle.rack.specs.Refusal.{speaks, rests}
 use Rattle.rack.specs.CaseFileOutcome.{ReaderIs, read, refused}
 use Rattle.rack.specs.declared.Outcome.TheVariants.{Whole, Refused}
 use Rattle.rack.specs.declared.Reading.{Reading}
@@ -24,3 +24,4 @@ given_whole (refused x) e = let z : ◌≡◌ {A = ℕ} 0 1 = cc in absurd (omeg
 pub given_refused : {f : List ℕ} {r : Reading} {n m : ℕ} → ReaderIs f r → r.outcome ≡ Refused n m → BreaksAt f m
 given_refused (read x) e = let z : ◌≡◌ {A = ℕ} 0 1 = cc in absurd (omega arith)
 given_refused {f} {m = m} (refused {m = k} (speaks b)) e = let q : k ≡ m = cc in subst (BreaksAt f) q b
+given_refused {f = f} {m = m} (ReaderIs.refused {n = n} {m = k} (rests _ x)) e = elim x [ ]

@@ -32,6 +32,7 @@ read_whole (refused w) e t = let z : ◌≡◌ {A = ℕ} 0 1 = cc in absurd (ome
 pub read_refused : {f : List ℕ} {r : Reading} {c : Case} {n m : ℕ} → ReaderIs f r → r.outcome ≡ Reader.Refused n m → ReadsAs f c → ⊥
 read_refused (read w) e w' = let z : ◌≡◌ {A = ℕ} 0 1 = cc in omega arith
 read_refused (refused (speaks p)) e w = reads_or_breaks w p
+read_refused {f = f} {c = c} (ReaderIs.refused {n = n} {m = m} (rests _ x)) e w = elim x [ ]
 
 -- a case is writable exactly if its bytes read as it
 pub read_back : {f : List ℕ} {c : Case} {b : Bool} → f ≡ bytes_of c → Says b (ReadsAs f c) → Says b (Writable c)
