@@ -2,8 +2,10 @@
 
 #![tactic(auto)]
 
-ghost use Rattle.std.specs.Prelude.{◌≡◌};
+ghost use Rattle.std.specs.Prelude.{◌≡◌, ◌≤◌};
 ghost use Rattle.arguments.specs.Numbers.{spelled, NumberSays};
+
+use std::env::{Env, FillError};
 
 // The number that an argument spells, or none that is asked for.
 #[derive(Clone, Copy)]
@@ -59,12 +61,42 @@ fn number(digits: &[u8], most: usize) -> Spelled
     Spelled::Number(value)
 }
 
+// The bytes that an argument puts into the room, which are none where it is missing or longer than the room.
+fn bytes_of(rt: &impl Env, i: usize, room: &mut [u8; LONGEST]) -> usize
+    ensures { result ≤ 32 }
+{
+    match rt.arg(i, room) {
+        Ok(n) => n,
+        Err(_) => 0,
+    }
+}
+
 // The number that argument i spells, if there is that argument, in at most 32 digits, and it spells one that is at most `most`. What the
 // arguments are no contract can say; `number` is proved to read them as `spelled` does.
-pub fn argument(i: usize, most: usize) -> Spelled
+pub fn argument(rt: &impl Env, i: usize, most: usize) -> Spelled
     ensures { NumberSays most result }
 {
     let mut digits = [0u8; LONGEST];
-    let n = os::arg(i, &mut digits);
+    let n = bytes_of(rt, i, &mut digits);
     number(&digits[..n], most)
+}
+
+// Whether there is an argument i, of whatever length.
+fn stands(rt: &impl Env, i: usize) -> bool {
+    let mut room = [0u8; 1];
+    match rt.arg(i, &mut room) {
+        Ok(_) => true,
+        Err(FillError::TooLong) => true,
+        Err(FillError::NotPresent) => false,
+    }
+}
+
+// How many arguments there are, the program's name among them.
+pub fn count(rt: &impl Env) -> usize {
+    for i in 0..usize::MAX {
+        if !stands(rt, i) {
+            return i;
+        }
+    }
+    usize::MAX
 }

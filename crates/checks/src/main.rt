@@ -4,24 +4,22 @@
 #![tactic(auto)]
 
 use admit::Answer;
-use libc::STDIN_FILENO;
 use plan::PLAN;
 use rack::{LONGEST_FILE, WORK_ROOM};
+use std::io;
 
-fn main() {
+fn main(rt: HostRuntime) -> io::Result<()> {
     let mut file = [0u8; LONGEST_FILE + 1];
     let mut plan = [0u64; PLAN];
     let mut work = [0u8; WORK_ROOM];
-    let n = io::read_full(STDIN_FILENO, &mut file);
+    let n = input::read_full(&mut rt.stdin(), &mut file)?;
     let answer = admit::open(&file[..n], WORK_ROOM, &mut plan, &mut work);
     match answer {
         Answer::Table(rows) => {
-            report::text(b"accepted ");
-            report::number(rows);
-            report::line_end();
+            report::text(&rt, b"accepted ")?;
+            report::number(&rt, rows)?;
+            report::line_end(&rt)
         }
-        Answer::Refused(number, beside) => {
-            report::refused(number, beside);
-        }
+        Answer::Refused(number, beside) => report::refused(&rt, number, beside),
     }
 }

@@ -7,6 +7,8 @@
 use corpus::PAST;
 use corpus_cases::{checks, files};
 use corpus_runs::{listings, replays, verdicts};
+use std::io;
+use std::io::Read;
 
 // The kinds of entries.
 const FILES: usize = 0;
@@ -33,51 +35,56 @@ const WORK: usize = 65536;
 
 // Takes an entry of this kind. A part of it goes to `file` or to `given`.
 fn ask(
+    rt: &impl Print,
     kind: usize,
-    fd: i32,
+    from: &mut impl Read,
     file: &mut [u8; PART],
     given: &mut [u8; PART],
     run: &mut [u8; RUN],
     other: &mut [u8; RUN],
     work: &mut [u8; WORK],
-) {
+) -> io::Result<()> {
     match kind {
-        FILES => files::ask(fd, file),
-        CHECKS => checks::ask(fd, file, given, work),
-        VERDICTS => verdicts::ask(fd, file, run, other, work),
-        LISTINGS => listings::ask(fd, file, given, run, work),
-        REPLAYS => replays::ask(fd, given, file),
-        WRITES => corpus_writes::ask(fd, file, run),
-        _ => report::text(b"no such kind\n"),
+        FILES => files::ask(rt, from, file),
+        CHECKS => checks::ask(rt, from, file, given, work),
+        VERDICTS => verdicts::ask(rt, from, file, run, other, work),
+        LISTINGS => listings::ask(rt, from, file, given, run, work),
+        REPLAYS => replays::ask(rt, from, given, file),
+        WRITES => corpus_writes::ask(rt, from, file, run),
+        _ => report::text(rt, b"no such kind\n"),
     }
 }
 
 // Takes every entry.
 fn all(
-    fd: i32,
+    rt: &impl Print,
+    from: &mut impl Read,
     file: &mut [u8; PART],
     given: &mut [u8; PART],
     run: &mut [u8; RUN],
     other: &mut [u8; RUN],
     work: &mut [u8; WORK],
-) {
+) -> io::Result<()> {
     let mut turns = MOST_ENTRIES;
     while 0 < turns {
-        let kind = corpus::one(fd);
+        let kind = corpus::one(from)?;
         if kind == PAST {
-            return;
+            return Ok(());
         }
-        ask(kind, fd, file, given, run, other, work);
+        ask(rt, kind, from, file, given, run, other, work)?;
         turns -= 1;
     }
+    Ok(())
 }
 
-fn main() {
-    let fd = corpus::open();
+fn main(rt: HostRuntime) -> io::Result<()> {
+    let mut from = corpus::open(&rt)?;
     let mut file = [0u8; PART];
     let mut given = [0u8; PART];
     let mut run = [0u8; RUN];
     let mut other = [0u8; RUN];
     let mut work = [0u8; WORK];
-    all(fd, &mut file, &mut given, &mut run, &mut other, &mut work);
+    all(
+        &rt, &mut from, &mut file, &mut given, &mut run, &mut other, &mut work,
+    )
 }

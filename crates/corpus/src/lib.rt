@@ -5,12 +5,17 @@
 
 #![tactic(auto)]
 
-ghost use Rattle.std.specs.Prelude.{◌≡◌, length, replicate};
+ghost use Rattle.std.specs.Prelude.{◌≡◌, length, replicate, IfOk};
 ghost use Rattle.walks.specs.Says.{Says};
 ghost use Rattle.corpus.specs.Takes.{TakenSays, ReadSays};
 ghost use Rattle.corpus.specs.Rooms.{Still};
 
+use input::read_full;
 use rack::wide;
+use std::fs::File;
+use std::io;
+use std::io::Read;
+use std::rt::Files;
 
 // A part of the corpus was read into the room, so many bytes of it; or the corpus ends.
 #[derive(Clone, Copy)]
@@ -22,56 +27,56 @@ pub enum Taken {
 // What stands for a number where the corpus ends: more than three bytes hold, and more than any room has.
 pub const PAST: usize = 16777216;
 
-// Opens the corpus of the program that is run: a descriptor, or -1, as the system answers.
-pub fn open() -> i32 {
-    os::open_read(b"corpus")
+// Opens the corpus of the program that is run.
+pub fn open<R: Files>(rt: &R) -> io::Result<R::File> {
+    File::open(rt, "corpus")
 }
 
 // A number of one byte, or PAST.
-pub fn one(fd: i32) -> usize
-    ensures { ReadSays 256 result }
+pub fn one<R: Read>(from: &mut R) -> io::Result<usize>
+    ensures { IfOk result (ReadSays 256) }
 {
     let mut bytes = [0u8; 1];
-    if io::read_full(fd, &mut bytes) < 1 {
-        return PAST;
+    if read_full(from, &mut bytes)? < 1 {
+        return Ok(PAST);
     }
-    wide(bytes[0])
+    Ok(wide(bytes[0]))
 }
 
 // A number of two bytes, or PAST.
-pub fn two(fd: i32) -> usize
-    ensures { ReadSays 65536 result }
+pub fn two<R: Read>(from: &mut R) -> io::Result<usize>
+    ensures { IfOk result (ReadSays 65536) }
 {
     let mut bytes = [0u8; 2];
-    if io::read_full(fd, &mut bytes) < 2 {
-        return PAST;
+    if read_full(from, &mut bytes)? < 2 {
+        return Ok(PAST);
     }
-    wide(bytes[0]) + 256 * wide(bytes[1])
+    Ok(wide(bytes[0]) + 256 * wide(bytes[1]))
 }
 
 // A number of three bytes, or PAST.
-pub fn three(fd: i32) -> usize
-    ensures { ReadSays 16777216 result }
+pub fn three<R: Read>(from: &mut R) -> io::Result<usize>
+    ensures { IfOk result (ReadSays 16777216) }
 {
     let mut bytes = [0u8; 3];
-    if io::read_full(fd, &mut bytes) < 3 {
-        return PAST;
+    if read_full(from, &mut bytes)? < 3 {
+        return Ok(PAST);
     }
-    wide(bytes[0]) + 256 * wide(bytes[1]) + 65536 * wide(bytes[2])
+    Ok(wide(bytes[0]) + 256 * wide(bytes[1]) + 65536 * wide(bytes[2]))
 }
 
 // The next part, with its length in three bytes before it. A part that is longer than the room ends the corpus.
-pub fn part(fd: i32, room: &mut [u8]) -> Taken
-    ensures { TakenSays (length room.new) result }
+pub fn part<R: Read>(from: &mut R, room: &mut [u8]) -> io::Result<Taken>
+    ensures { IfOk result (TakenSays (length room.new)) }
 {
-    let n = three(fd);
+    let n = three(from)?;
     if room.len() < n {
-        return Taken::Done;
+        return Ok(Taken::Done);
     }
-    if io::read_full(fd, &mut room[..n]) < n {
-        return Taken::Done;
+    if read_full(from, &mut room[..n])? < n {
+        return Ok(Taken::Done);
     }
-    Taken::Of(n)
+    Ok(Taken::Of(n))
 }
 
 // Makes every byte of a room v.

@@ -6,62 +6,68 @@ use admit::Answer;
 use corpus::Taken;
 use plan::PLAN;
 use rack::WORK_ROOM;
+use std::io;
+use std::io::Read;
 
 // What the room is full of beforehand.
 const FULL: u8 = 255;
 
 // The line of a case that is accepted.
-fn accepted(rows: usize, work: &[u8], table: &[u8]) {
-    report::text(b"accepted ");
-    report::number(rows);
+fn accepted(rt: &impl Print, rows: usize, work: &[u8], table: &[u8]) -> io::Result<()> {
+    report::text(rt, b"accepted ")?;
+    report::number(rt, rows)?;
     if !check::same(report::first(work, table.len()), table) {
-        report::text(b", table differs");
+        report::text(rt, b", table differs")?;
     }
-    report::line_end();
+    report::line_end(rt)
 }
 
 // The line of a case that is refused.
-fn refused(number: u8, beside: usize, work: &[u8]) {
-    report::refusal(number, beside);
+fn refused(rt: &impl Print, number: u8, beside: usize, work: &[u8]) -> io::Result<()> {
+    report::refusal(rt, number, beside)?;
     if !corpus::still(work, 0, 0) {
-        report::text(b", work room not cleared");
+        report::text(rt, b", work room not cleared")?;
     }
-    report::line_end();
+    report::line_end(rt)
 }
 
 // The line of one entry.
-fn answer(file: &[u8], table: &[u8], work: &mut [u8]) {
+fn answer(rt: &impl Print, file: &[u8], table: &[u8], work: &mut [u8]) -> io::Result<()> {
     let mut plan = [0u64; PLAN];
     corpus::fill(work, FULL);
     let answer = admit::open(file, WORK_ROOM, &mut plan, work);
     match answer {
-        Answer::Table(rows) => {
-            accepted(rows, work, table);
-        }
-        Answer::Refused(number, beside) => {
-            refused(number, beside, work);
-        }
+        Answer::Table(rows) => accepted(rt, rows, work, table),
+        Answer::Refused(number, beside) => refused(rt, number, beside, work),
     }
 }
 
 // Takes the table of an entry whose file is at hand.
-fn with_table(fd: i32, file: &[u8], room: &mut [u8], work: &mut [u8]) {
-    let taken = corpus::part(fd, room);
+fn with_table(
+    rt: &impl Print,
+    from: &mut impl Read,
+    file: &[u8],
+    room: &mut [u8],
+    work: &mut [u8],
+) -> io::Result<()> {
+    let taken = corpus::part(from, room)?;
     match taken {
-        Taken::Of(n) => {
-            answer(file, report::first(room, n), work);
-        }
-        Taken::Done => {}
+        Taken::Of(n) => answer(rt, file, report::first(room, n), work),
+        Taken::Done => Ok(()),
     }
 }
 
 // Takes an entry: a file, and the table of its reachable product markings, which is empty for a refusal.
-pub fn ask(fd: i32, room: &mut [u8], table: &mut [u8], work: &mut [u8]) {
-    let taken = corpus::part(fd, room);
+pub fn ask(
+    rt: &impl Print,
+    from: &mut impl Read,
+    room: &mut [u8],
+    table: &mut [u8],
+    work: &mut [u8],
+) -> io::Result<()> {
+    let taken = corpus::part(from, room)?;
     match taken {
-        Taken::Of(n) => {
-            with_table(fd, report::first(room, n), table, work);
-        }
-        Taken::Done => {}
+        Taken::Of(n) => with_table(rt, from, report::first(room, n), table, work),
+        Taken::Done => Ok(()),
     }
 }

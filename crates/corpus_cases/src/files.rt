@@ -2,18 +2,20 @@
 // log of the case.
 use corpus::Taken;
 use rack::{Case, LONGEST_FILE, Outcome, Written, wide};
+use std::io;
+use std::io::Read;
 
 // The length of the longest log.
 const LONGEST_LOG: usize = 40;
 
 // What is said of a case that was written to a room, n bytes long.
-fn compare(room: &[u8; LONGEST_FILE], n: usize, file: &[u8]) {
+fn compare(rt: &impl Print, room: &[u8; LONGEST_FILE], n: usize, file: &[u8]) -> io::Result<()> {
     if check::same(report::first(room, n), file) {
-        report::text(b"same ");
-        report::number(n);
-        report::line_end();
+        report::text(rt, b"same ")?;
+        report::number(rt, n)?;
+        report::line_end(rt)
     } else {
-        report::text(b"other bytes\n");
+        report::text(rt, b"other bytes\n")
     }
 }
 
@@ -30,44 +32,33 @@ fn log_is_shown(file: &[u8], case: Case) -> bool {
 }
 
 // What comes of writing a case whose file is at hand.
-fn again(file: &[u8], case: Case) {
+fn again(rt: &impl Print, file: &[u8], case: Case) -> io::Result<()> {
     if !log_is_shown(file, case) {
-        report::text(b"log not shown\n");
-        return;
+        return report::text(rt, b"log not shown\n");
     }
     let mut room = [0u8; LONGEST_FILE];
     let written = writer::write_case(&mut room, case);
     match written {
-        Written::Bytes(n) => {
-            compare(&room, n, file);
-        }
-        Written::Refused(number, beside) => {
-            report::refused(number, beside);
-        }
+        Written::Bytes(n) => compare(rt, &room, n, file),
+        Written::Refused(number, beside) => report::refused(rt, number, beside),
     }
 }
 
 // The line of one file.
-fn answer(file: &[u8]) {
+fn answer(rt: &impl Print, file: &[u8]) -> io::Result<()> {
     let reading = reader::read_case(file);
     let outcome = reading.outcome;
     match outcome {
-        Outcome::Whole => {
-            again(file, reading.case);
-        }
-        Outcome::Refused(number, beside) => {
-            report::refused(number, beside);
-        }
+        Outcome::Whole => again(rt, file, reading.case),
+        Outcome::Refused(number, beside) => report::refused(rt, number, beside),
     }
 }
 
 // Takes an entry: a file.
-pub fn ask(fd: i32, room: &mut [u8]) {
-    let taken = corpus::part(fd, room);
+pub fn ask(rt: &impl Print, from: &mut impl Read, room: &mut [u8]) -> io::Result<()> {
+    let taken = corpus::part(from, room)?;
     match taken {
-        Taken::Of(n) => {
-            answer(report::first(room, n));
-        }
-        Taken::Done => {}
+        Taken::Of(n) => answer(rt, report::first(room, n)),
+        Taken::Done => Ok(()),
     }
 }

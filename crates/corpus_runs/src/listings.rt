@@ -3,6 +3,8 @@
 // not all zeros afterwards.
 use corpus::Taken;
 use rack::Listed;
+use std::io;
+use std::io::Read;
 
 // What the run's room is full of beforehand, and the work room.
 const FULL: u8 = 170;
@@ -19,42 +21,42 @@ struct Asking {
 }
 
 // A run that is given, with the letter of its mark.
-fn print_run(letter: &[u8], room: &[u8], length: usize) {
-    report::text(letter);
-    report::run(report::first(room, length));
+fn print_run(rt: &impl Print, letter: &[u8], room: &[u8], length: usize) -> io::Result<()> {
+    report::text(rt, letter)?;
+    report::run(rt, report::first(room, length))
 }
 
 // The answer, and how many bytes of the room it gives.
-fn print(listed: Listed, room: &[u8]) -> usize {
+fn print(rt: &impl Print, listed: Listed, room: &[u8]) -> io::Result<usize> {
     match listed {
         Listed::Matching(n) => {
-            print_run(b"F ", room, n);
-            n
+            print_run(rt, b"F ", room, n)?;
+            Ok(n)
         }
         Listed::Other(n) => {
-            print_run(b"C ", room, n);
-            n
+            print_run(rt, b"C ", room, n)?;
+            Ok(n)
         }
         Listed::End => {
-            report::text(b"end");
-            0
+            report::text(rt, b"end")?;
+            Ok(0)
         }
         Listed::Refused(number, beside) => {
-            report::refusal(number, beside);
-            0
+            report::refusal(rt, number, beside)?;
+            Ok(0)
         }
     }
 }
 
 // Says what is wrong with the rooms after a run of this length was given, if anything is.
-fn look(length: usize, room: &[u8], work: &[u8]) {
+fn look(rt: &impl Print, length: usize, room: &[u8], work: &[u8]) -> io::Result<()> {
     if !corpus::still(room, length, FULL) {
-        report::text(b", room changed");
+        report::text(rt, b", room changed")?;
     }
     if !corpus::still(work, 0, 0) {
-        report::text(b", work room not zeros");
+        report::text(rt, b", work room not zeros")?;
     }
-    report::line_end();
+    report::line_end(rt)
 }
 
 // The listing that is asked.
@@ -73,75 +75,95 @@ fn list(
 }
 
 // The line of one entry.
-fn answer(file: &[u8], limit: usize, after: bool, given: &[u8], room: &mut [u8], work: &mut [u8]) {
+fn answer(
+    rt: &impl Print,
+    file: &[u8],
+    limit: usize,
+    after: bool,
+    given: &[u8],
+    room: &mut [u8],
+    work: &mut [u8],
+) -> io::Result<()> {
     corpus::fill(room, FULL);
     corpus::fill(work, WORK_FULL);
     let listed = list(file, limit, after, given, room, work);
-    let length = print(listed, room);
-    look(length, room, work);
+    let length = print(rt, listed, room)?;
+    look(rt, length, room, work)
 }
 
 // Asks of the file in the rooms of the asked lengths, if the rooms that are at hand have them.
-fn with_rooms(file: &[u8], asking: Asking, given: &[u8], room: &mut [u8], work: &mut [u8]) {
+fn with_rooms(
+    rt: &impl Print,
+    file: &[u8],
+    asking: Asking,
+    given: &[u8],
+    room: &mut [u8],
+    work: &mut [u8],
+) -> io::Result<()> {
     let r = asking.room;
     let w = asking.work;
     if room.len() < r {
-        return;
+        return Ok(());
     }
     if work.len() < w {
-        return;
+        return Ok(());
     }
     answer(
+        rt,
         file,
         asking.limit,
         asking.after,
         given,
         &mut room[..r],
         &mut work[..w],
-    );
+    )
 }
 
 // What is asked.
-fn asked(fd: i32) -> Asking {
-    let limit = corpus::three(fd);
-    let after = corpus::one(fd);
-    let room = corpus::two(fd);
-    let work = corpus::three(fd);
-    Asking {
+fn asked(from: &mut impl Read) -> io::Result<Asking> {
+    let limit = corpus::three(from)?;
+    let after = corpus::one(from)?;
+    let room = corpus::two(from)?;
+    let work = corpus::three(from)?;
+    Ok(Asking {
         limit: limit,
         after: after == 1,
         room: room,
         work: work,
-    }
+    })
 }
 
 // Takes the file of an entry, which comes last.
 fn with_file(
-    fd: i32,
+    rt: &impl Print,
+    from: &mut impl Read,
     asking: Asking,
     file: &mut [u8],
     given: &[u8],
     room: &mut [u8],
     work: &mut [u8],
-) {
-    let taken = corpus::part(fd, file);
+) -> io::Result<()> {
+    let taken = corpus::part(from, file)?;
     match taken {
-        Taken::Of(n) => {
-            with_rooms(report::first(file, n), asking, given, room, work);
-        }
-        Taken::Done => {}
+        Taken::Of(n) => with_rooms(rt, report::first(file, n), asking, given, room, work),
+        Taken::Done => Ok(()),
     }
 }
 
 // Takes an entry: the limit, 1 for a listing after a run and else 0, the lengths of the run's room and of the work room, that run, and a
 // file.
-pub fn ask(fd: i32, file: &mut [u8], given: &mut [u8], room: &mut [u8], work: &mut [u8]) {
-    let asking = asked(fd);
-    let taken = corpus::part(fd, given);
+pub fn ask(
+    rt: &impl Print,
+    from: &mut impl Read,
+    file: &mut [u8],
+    given: &mut [u8],
+    room: &mut [u8],
+    work: &mut [u8],
+) -> io::Result<()> {
+    let asking = asked(from)?;
+    let taken = corpus::part(from, given)?;
     match taken {
-        Taken::Of(n) => {
-            with_file(fd, asking, file, report::first(given, n), room, work);
-        }
-        Taken::Done => {}
+        Taken::Of(n) => with_file(rt, from, asking, file, report::first(given, n), room, work),
+        Taken::Done => Ok(()),
     }
 }

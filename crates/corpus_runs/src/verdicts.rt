@@ -3,6 +3,8 @@
 // afterwards.
 use corpus::Taken;
 use rack::{Judged, Verdict};
+use std::io;
+use std::io::Read;
 
 // What the rooms for runs are full of beforehand, and the work room.
 const FULL: u8 = 170;
@@ -18,43 +20,43 @@ struct Asking {
 }
 
 // A shown run.
-fn print_run(letter: &[u8], room: &[u8], length: usize) {
-    report::text(letter);
-    report::run(report::first(room, length));
+fn print_run(rt: &impl Print, letter: &[u8], room: &[u8], length: usize) -> io::Result<()> {
+    report::text(rt, letter)?;
+    report::run(rt, report::first(room, length))
 }
 
 // The verdict and its runs.
-fn print(judged: Judged, matching: &[u8], other: &[u8]) {
+fn print(rt: &impl Print, judged: Judged, matching: &[u8], other: &[u8]) -> io::Result<()> {
     let verdict = judged.verdict;
     match verdict {
-        Verdict::Faulty => {
-            print_run(b"faulty F ", matching, judged.matching);
-        }
-        Verdict::Safe => {
-            print_run(b"safe C ", other, judged.other);
-        }
+        Verdict::Faulty => print_run(rt, b"faulty F ", matching, judged.matching),
+        Verdict::Safe => print_run(rt, b"safe C ", other, judged.other),
         Verdict::Ambiguous => {
-            print_run(b"ambiguous F ", matching, judged.matching);
-            print_run(b" C ", other, judged.other);
+            print_run(rt, b"ambiguous F ", matching, judged.matching)?;
+            print_run(rt, b" C ", other, judged.other)
         }
-        Verdict::Refused(number, beside) => {
-            report::refusal(number, beside);
-        }
+        Verdict::Refused(number, beside) => report::refusal(rt, number, beside),
     }
 }
 
 // Says what is wrong with the rooms after a verdict that shows runs of these lengths, if anything is.
-fn look(judged: Judged, matching: &[u8], other: &[u8], work: &[u8]) {
+fn look(
+    rt: &impl Print,
+    judged: Judged,
+    matching: &[u8],
+    other: &[u8],
+    work: &[u8],
+) -> io::Result<()> {
     if !corpus::still(matching, judged.matching, FULL) {
-        report::text(b", matching room changed");
+        report::text(rt, b", matching room changed")?;
     }
     if !corpus::still(other, judged.other, FULL) {
-        report::text(b", other room changed");
+        report::text(rt, b", other room changed")?;
     }
     if !corpus::still(work, 0, 0) {
-        report::text(b", work room not zeros");
+        report::text(rt, b", work room not zeros")?;
     }
-    report::line_end();
+    report::line_end(rt)
 }
 
 // Fills the rooms.
@@ -65,50 +67,74 @@ fn fill(matching: &mut [u8], other: &mut [u8], work: &mut [u8]) {
 }
 
 // The line of one entry.
-fn answer(file: &[u8], matching: &mut [u8], other: &mut [u8], work: &mut [u8]) {
+fn answer(
+    rt: &impl Print,
+    file: &[u8],
+    matching: &mut [u8],
+    other: &mut [u8],
+    work: &mut [u8],
+) -> io::Result<()> {
     fill(matching, other, work);
     let judged = judge::judge(file, matching, other, work);
-    print(judged, matching, other);
-    look(judged, matching, other, work);
+    print(rt, judged, matching, other)?;
+    look(rt, judged, matching, other, work)
 }
 
 // Judges the file in the rooms of the asked lengths, if the rooms that are at hand have them.
-fn with_rooms(file: &[u8], asking: Asking, matching: &mut [u8], other: &mut [u8], work: &mut [u8]) {
+fn with_rooms(
+    rt: &impl Print,
+    file: &[u8],
+    asking: Asking,
+    matching: &mut [u8],
+    other: &mut [u8],
+    work: &mut [u8],
+) -> io::Result<()> {
     let m = asking.matching;
     let o = asking.other;
     let w = asking.work;
     if matching.len() < m {
-        return;
+        return Ok(());
     }
     if other.len() < o {
-        return;
+        return Ok(());
     }
     if work.len() < w {
-        return;
+        return Ok(());
     }
-    answer(file, &mut matching[..m], &mut other[..o], &mut work[..w]);
+    answer(
+        rt,
+        file,
+        &mut matching[..m],
+        &mut other[..o],
+        &mut work[..w],
+    )
 }
 
 // The lengths of the rooms.
-fn asked(fd: i32) -> Asking {
-    let matching = corpus::two(fd);
-    let other = corpus::two(fd);
-    let work = corpus::three(fd);
-    Asking {
+fn asked(from: &mut impl Read) -> io::Result<Asking> {
+    let matching = corpus::two(from)?;
+    let other = corpus::two(from)?;
+    let work = corpus::three(from)?;
+    Ok(Asking {
         matching: matching,
         other: other,
         work: work,
-    }
+    })
 }
 
 // Takes an entry: the lengths of the matching run's room, of the other run's and of the work room, and a file.
-pub fn ask(fd: i32, file: &mut [u8], matching: &mut [u8], other: &mut [u8], work: &mut [u8]) {
-    let asking = asked(fd);
-    let taken = corpus::part(fd, file);
+pub fn ask(
+    rt: &impl Print,
+    from: &mut impl Read,
+    file: &mut [u8],
+    matching: &mut [u8],
+    other: &mut [u8],
+    work: &mut [u8],
+) -> io::Result<()> {
+    let asking = asked(from)?;
+    let taken = corpus::part(from, file)?;
     match taken {
-        Taken::Of(n) => {
-            with_rooms(report::first(file, n), asking, matching, other, work);
-        }
-        Taken::Done => {}
+        Taken::Of(n) => with_rooms(rt, report::first(file, n), asking, matching, other, work),
+        Taken::Done => Ok(()),
     }
 }

@@ -9,61 +9,72 @@ mod memory;
 
 use corpus::Taken;
 use rack::{Case, Written};
+use std::io;
+use std::io::Read;
 
 // What the room is full of beforehand.
 const FULL: u8 = 170;
 
 // The answer, and how many bytes of the room it gives.
-fn print(written: Written) -> usize {
+fn print(rt: &impl Print, written: Written) -> io::Result<usize> {
     match written {
         Written::Bytes(n) => {
-            report::text(b"written ");
-            report::number(n);
-            n
+            report::text(rt, b"written ")?;
+            report::number(rt, n)?;
+            Ok(n)
         }
         Written::Refused(number, beside) => {
-            report::refusal(number, beside);
-            0
+            report::refusal(rt, number, beside)?;
+            Ok(0)
         }
     }
 }
 
 // Says what is wrong with the room after n bytes were written to it, if anything is.
-fn look(n: usize, room: &[u8], file: &[u8]) {
+fn look(rt: &impl Print, n: usize, room: &[u8], file: &[u8]) -> io::Result<()> {
     if !check::same(report::first(room, n), file) {
-        report::text(b", other bytes");
+        report::text(rt, b", other bytes")?;
     }
     if !corpus::still(room, n, FULL) {
-        report::text(b", room changed");
+        report::text(rt, b", room changed")?;
     }
-    report::line_end();
+    report::line_end(rt)
 }
 
 // The line of one entry.
-fn answer(case: Case, room: &mut [u8], file: &[u8]) {
+fn answer(rt: &impl Print, case: Case, room: &mut [u8], file: &[u8]) -> io::Result<()> {
     corpus::fill(room, FULL);
     let written = writer::write_case(room, case);
-    let n = print(written);
-    look(n, room, file);
+    let n = print(rt, written)?;
+    look(rt, n, room, file)
 }
 
 // Takes the case of an entry whose file is at hand, and whose room has this length.
-fn with_room(fd: i32, file: &[u8], room: &mut [u8], length: usize) {
+fn with_room(
+    rt: &impl Print,
+    from: &mut impl Read,
+    file: &[u8],
+    room: &mut [u8],
+    length: usize,
+) -> io::Result<()> {
     if room.len() < length {
-        return;
+        return Ok(());
     }
-    let case = memory::case(fd);
-    answer(case, &mut room[..length], file);
+    let case = memory::case(from)?;
+    answer(rt, case, &mut room[..length], file)
 }
 
 // Takes an entry: the room's length, the file that is to be written, which is empty for a refusal, and a case in memory.
-pub fn ask(fd: i32, file: &mut [u8], room: &mut [u8]) {
-    let length = corpus::two(fd);
-    let taken = corpus::part(fd, file);
+pub fn ask(
+    rt: &impl Print,
+    from: &mut impl Read,
+    file: &mut [u8],
+    room: &mut [u8],
+) -> io::Result<()> {
+    let length = corpus::two(from)?;
+    let taken = corpus::part(from, file)?;
     match taken {
-        Taken::Of(n) => {
-            with_room(fd, report::first(file, n), room, length);
-        }
-        Taken::Done => {}
+        Taken::Of(n) => with_room(rt, from, report::first(file, n), room, length),
+        Taken::Done => Ok(()),
     }
 }

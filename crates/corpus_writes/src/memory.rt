@@ -9,124 +9,127 @@
 //   bounds       count (1), least (64), most (64)
 //   log          count (1), labels (40)
 // Any bytes make a case here. Where the corpus ends too early zeros stand in; the entry's line then tells.
+use input::read_full;
 use rack::{Arcs, Bounds, Case, Log, Net, Observable, Pairs, PatternArcs, PatternNet};
+use std::io;
+use std::io::Read;
 
 // One byte.
-fn byte(fd: i32) -> u8 {
+fn byte(from: &mut impl Read) -> io::Result<u8> {
     let mut bytes = [0u8; 1];
-    io::read_full(fd, &mut bytes);
-    bytes[0]
+    read_full(from, &mut bytes)?;
+    Ok(bytes[0])
 }
 
-fn net(fd: i32) -> Net {
-    let places = byte(fd);
-    let cap = byte(fd);
+fn net(from: &mut impl Read) -> io::Result<Net> {
+    let places = byte(from)?;
+    let cap = byte(from)?;
     let mut first = [0u8; 16];
-    io::read_full(fd, &mut first);
-    Net {
+    read_full(from, &mut first)?;
+    Ok(Net {
         places: places,
         cap: cap,
         first: first,
-    }
+    })
 }
 
-fn arcs(fd: i32) -> Arcs {
-    let count = byte(fd);
+fn arcs(from: &mut impl Read) -> io::Result<Arcs> {
+    let count = byte(from)?;
     let mut labels = [0u8; 48];
     let mut pre = [0u8; 768];
     let mut post = [0u8; 768];
-    io::read_full(fd, &mut labels);
-    io::read_full(fd, &mut pre);
-    io::read_full(fd, &mut post);
-    Arcs {
+    read_full(from, &mut labels)?;
+    read_full(from, &mut pre)?;
+    read_full(from, &mut post)?;
+    Ok(Arcs {
         count: count,
         labels: labels,
         pre: pre,
         post: post,
-    }
+    })
 }
 
-fn pairs(fd: i32) -> Pairs {
-    let count = byte(fd);
+fn pairs(from: &mut impl Read) -> io::Result<Pairs> {
+    let count = byte(from)?;
     let mut higher = [0u8; 32];
     let mut lower = [0u8; 32];
-    io::read_full(fd, &mut higher);
-    io::read_full(fd, &mut lower);
-    Pairs {
+    read_full(from, &mut higher)?;
+    read_full(from, &mut lower)?;
+    Ok(Pairs {
         count: count,
         higher: higher,
         lower: lower,
-    }
+    })
 }
 
-fn observable(fd: i32) -> Observable {
+fn observable(from: &mut impl Read) -> io::Result<Observable> {
     let mut flags = [0u8; 32];
-    io::read_full(fd, &mut flags);
-    Observable { flags: flags }
+    read_full(from, &mut flags)?;
+    Ok(Observable { flags: flags })
 }
 
-fn pattern(fd: i32) -> PatternNet {
-    let places = byte(fd);
-    let cap = byte(fd);
+fn pattern(from: &mut impl Read) -> io::Result<PatternNet> {
+    let places = byte(from)?;
+    let cap = byte(from)?;
     let mut first = [0u8; 8];
-    io::read_full(fd, &mut first);
-    PatternNet {
+    read_full(from, &mut first)?;
+    Ok(PatternNet {
         places: places,
         cap: cap,
         first: first,
-    }
+    })
 }
 
-fn links(fd: i32) -> PatternArcs {
-    let count = byte(fd);
+fn links(from: &mut impl Read) -> io::Result<PatternArcs> {
+    let count = byte(from)?;
     let mut labels = [0u8; 16];
     let mut pre = [0u8; 128];
     let mut post = [0u8; 128];
-    io::read_full(fd, &mut labels);
-    io::read_full(fd, &mut pre);
-    io::read_full(fd, &mut post);
-    PatternArcs {
+    read_full(from, &mut labels)?;
+    read_full(from, &mut pre)?;
+    read_full(from, &mut post)?;
+    Ok(PatternArcs {
         count: count,
         labels: labels,
         pre: pre,
         post: post,
-    }
+    })
 }
 
-fn bounds(fd: i32) -> Bounds {
-    let count = byte(fd);
+fn bounds(from: &mut impl Read) -> io::Result<Bounds> {
+    let count = byte(from)?;
     let mut least = [0u8; 64];
     let mut most = [0u8; 64];
-    io::read_full(fd, &mut least);
-    io::read_full(fd, &mut most);
-    Bounds {
+    read_full(from, &mut least)?;
+    read_full(from, &mut most)?;
+    Ok(Bounds {
         count: count,
         least: least,
         most: most,
-    }
+    })
 }
 
-fn log(fd: i32) -> Log {
-    let count = byte(fd);
+fn log(from: &mut impl Read) -> io::Result<Log> {
+    let count = byte(from)?;
     let mut labels = [0u8; 40];
-    io::read_full(fd, &mut labels);
-    Log {
+    read_full(from, &mut labels)?;
+    Ok(Log {
         count: count,
         labels: labels,
-    }
+    })
 }
 
 // The case that stands next in the corpus.
-pub fn case(fd: i32) -> Case {
-    let net = net(fd);
-    let arcs = arcs(fd);
-    let pairs = pairs(fd);
-    let observable = observable(fd);
-    let pattern = pattern(fd);
-    let links = links(fd);
-    let bounds = bounds(fd);
-    let log = log(fd);
-    Case {
+pub fn case(from: &mut impl Read) -> io::Result<Case> {
+    let net = net(from)?;
+    let arcs = arcs(from)?;
+    let pairs = pairs(from)?;
+    let observable = observable(from)?;
+    let pattern = pattern(from)?;
+    let links = links(from)?;
+    let bounds = bounds(from)?;
+    let log = log(from)?;
+    Ok(Case {
         net: net,
         arcs: arcs,
         pairs: pairs,
@@ -135,5 +138,5 @@ pub fn case(fd: i32) -> Case {
         links: links,
         bounds: bounds,
         log: log,
-    }
+    })
 }

@@ -30,7 +30,6 @@ use Rattle.rack.specs.declared.Written.{Written}
 use Rattle.rack.specs.declared.Written.TheVariants as Writer
 use Rattle.rack.specs.declared.Judged.{Judged}
 use Rattle.rack.specs.declared.Verdict.{Verdict}
-use Rattle.rack.specs.declared.Verdict.TheVariants as Verdict
 use Rattle.rack.specs.declared.Listed.{Listed}
 use Rattle.rack.specs.declared.Listed.TheVariants as Listing
 use Rattle.rack.specs.declared.Stop.TheVariants as Replay
@@ -65,7 +64,7 @@ demand_1_reader {f} {x} o =
 
 broken : {f : List ℕ} {n m : ℕ} → ReaderRefuses f n m → BreaksAt f m
 broken (speaks b) = b
-broken (rests _ o) = elim o [ ]
+broken (rests _ x) = elim x [ ]
 
 pub demand_1_log : {f : List ℕ} {lent : Address} {l : List ℕ} {a : Address} → LogIs f lent l a → LogTaken f lent l a
 demand_1_log {f} {lent} {l} {a} o =

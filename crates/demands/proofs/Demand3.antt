@@ -144,7 +144,7 @@ module _ {f : List ℕ} {c : Case} (reads : ReadsAs f c) (ok : NetsPass c) (limi
 -- each once: what comes after a run in the listing is another run
 later_among : (r s : List ℕ) (l : List Explanation) → InOrder (after r) l → Among s l → T (before r s)
 unfolding later
-later_among r s _ listing.none a = elim a [ ]
+later_among r s _ listing.none h = elim h [ ]
 later_among r s l (then {x = x} t o) (here e) = subst (λ (u : List ℕ). T (before r u)) e t
 later_among r s l (then {x = x} {l = m} t o) (there h) = before_trans r x.run s t (later_among x.run s m o h)
 

@@ -30,7 +30,6 @@ use Rattle.rack.specs.declared.Written.{Written}
 use Rattle.rack.specs.declared.Written.TheVariants as Writer
 use Rattle.rack.specs.declared.Judged.{Judged}
 use Rattle.rack.specs.declared.Verdict.{Verdict}
-use Rattle.rack.specs.declared.Verdict.TheVariants as Verdict
 use Rattle.rack.specs.declared.Listed.{Listed}
 use Rattle.rack.specs.declared.Listed.TheVariants as Listing
 use Rattle.rack.specs.declared.Stop.TheVariants as Replay

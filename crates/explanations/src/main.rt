@@ -4,12 +4,12 @@
 
 #![tactic(auto)]
 
-ghost use Rattle.std.specs.Prelude.{◌≡◌, ◌≤◌, length};
+ghost use Rattle.std.specs.Prelude.{◌≡◌, ◌≤◌, length, IfOk};
 ghost use Rattle.explanations.specs.Turns.{shown_of, ShownSays, LaterSays};
 
 use arguments::{Spelled, argument};
-use libc::{STDERR_FILENO, STDIN_FILENO};
 use rack::{LONGEST_FILE, Listed, WORK_ROOM};
+use std::io;
 
 // A run of so many numbers was printed; or the last line was.
 #[derive(Clone, Copy)]
@@ -19,93 +19,103 @@ enum Shown {
 }
 
 // How to call the program.
-fn usage() {
-    io::write_all(
-        STDERR_FILENO,
-        b"usage: explanations LIMIT, with a case file on standard input; LIMIT 0 to 18446744073709551615\n",
-    );
+fn usage(rt: &impl Eprint) -> io::Result<()> {
+    rt.eprint(
+        "usage: explanations LIMIT, with a case file on standard input; LIMIT 0 to 18446744073709551615\n",
+    )
 }
 
 // A line for a run.
-fn print_run(letter: &[u8], room: &[u8], length: usize) {
-    report::text(letter);
-    report::run(report::first(room, length));
-    report::line_end();
+fn print_run(rt: &impl Print, letter: &[u8], room: &[u8], length: usize) -> io::Result<()> {
+    report::text(rt, letter)?;
+    report::run(rt, report::first(room, length))?;
+    report::line_end(rt)
 }
 
 // The line of an answer, with the room that the run was written to.
-fn print(listed: Listed, room: &[u8]) -> Shown
-    ensures { result ≡ shown_of listed }
+fn print(rt: &impl Print, listed: Listed, room: &[u8]) -> io::Result<Shown>
+    ensures { IfOk result (λ s. s ≡ shown_of listed) }
 {
     match listed {
         Listed::Matching(n) => {
-            print_run(b"F ", room, n);
-            Shown::Run(n)
+            print_run(rt, b"F ", room, n)?;
+            Ok(Shown::Run(n))
         }
         Listed::Other(n) => {
-            print_run(b"C ", room, n);
-            Shown::Run(n)
+            print_run(rt, b"C ", room, n)?;
+            Ok(Shown::Run(n))
         }
         Listed::End => {
-            report::text(b"end\n");
-            Shown::Last
+            report::text(rt, b"end\n")?;
+            Ok(Shown::Last)
         }
         Listed::Refused(number, beside) => {
-            report::refused(number, beside);
-            Shown::Last
+            report::refused(rt, number, beside)?;
+            Ok(Shown::Last)
         }
     }
 }
 
 // The line of the first explanation.
-fn show_first(file: &[u8], limit: usize, room: &mut [u8], work: &mut [u8]) -> Shown
+fn show_first(
+    rt: &impl Print,
+    file: &[u8],
+    limit: usize,
+    room: &mut [u8],
+    work: &mut [u8],
+) -> io::Result<Shown>
     requires { length room.old ≡ 24 }
-    ensures { ShownSays result }
+    ensures { IfOk result ShownSays }
 {
     let listed = listing::first(file, limit, room, work);
-    print(listed, room)
+    print(rt, listed, room)
 }
 
 // The line of the explanation after the given run. It comes later than that.
-fn show_next(file: &[u8], limit: usize, given: &[u8], room: &mut [u8], work: &mut [u8]) -> Shown
+fn show_next(
+    rt: &impl Print,
+    file: &[u8],
+    limit: usize,
+    given: &[u8],
+    room: &mut [u8],
+    work: &mut [u8],
+) -> io::Result<Shown>
     requires { (length room.old ≡ 24) × (length given.now ≤ 24) }
-    ensures { LaterSays given.now result room.new }
+    ensures { IfOk result (λ s. LaterSays given.now s room.new) }
 {
     let listed = listing::next(file, limit, given, room, work);
-    print(listed, room)
+    print(rt, listed, room)
 }
 
 // A line for each explanation. Each comes later than the one before, and there are only so many runs of at most 24 bytes: that is why it ends, and
 // the measure is how far the rank of the run is below the top (specs/Turns.antt).
-fn all(file: &[u8], limit: usize, work: &mut [u8]) {
+fn all(rt: &impl Print, file: &[u8], limit: usize, work: &mut [u8]) -> io::Result<()> {
     let mut room = [0u8; 24];
-    let Shown::Run(mut n) = show_first(file, limit, &mut room, work) else {
-        return;
+    let Shown::Run(mut n) = show_first(rt, file, limit, &mut room, work)? else {
+        return Ok(());
     };
     loop {
         let given = room;
-        match show_next(file, limit, &given[..n], &mut room, work) {
+        match show_next(rt, file, limit, &given[..n], &mut room, work)? {
             Shown::Run(m) => {
                 n = m;
             }
             Shown::Last => {
-                return;
+                return Ok(());
             }
         }
     }
 }
 
-fn main() {
-    if os::arg_count() != 2 {
-        usage();
-        return;
+fn main(rt: HostRuntime) -> io::Result<()> {
+    if arguments::count(&rt) != 2 {
+        return usage(&rt);
     }
-    let Spelled::Number(limit) = argument(1, 18446744073709551615) else {
-        usage();
-        return;
+    let Spelled::Number(limit) = argument(&rt, 1, 18446744073709551615) else {
+        return usage(&rt);
     };
     let mut file = [0u8; LONGEST_FILE + 1];
-    let n = io::read_full(STDIN_FILENO, &mut file);
+    let n = input::read_full(&mut rt.stdin(), &mut file)?;
     let mut work = [0u8; WORK_ROOM];
-    all(&file[..n], limit, &mut work);
+    all(&rt, &file[..n], limit, &mut work)
 }

@@ -2,25 +2,23 @@
 
 #![tactic(auto)]
 
-ghost use Rattle.std.specs.Prelude.{◌≡◌, ◌≤◌, take};
+ghost use Rattle.std.specs.Prelude.{◌≡◌, ◌≤◌, take, IfOk};
 
-use libc::STDOUT_FILENO;
+use itoa::Buffer;
 use rack::{Net, PatternNet, Replayed, Stop, wide};
+use std::io;
 
 // How many bytes of a run are put together before they are written.
 const PIECE: usize = 256;
 
-// No number has more decimal digits.
-const MOST_DIGITS: usize = 20;
-
 // A number, with no blank or line end.
-pub fn number(n: usize) {
-    io::print_decimal(STDOUT_FILENO, n as u64);
+pub fn number(rt: &impl Print, n: usize) -> io::Result<()> {
+    rt.print(n)
 }
 
 // A text.
-pub fn text(s: &[u8]) {
-    io::write_all(STDOUT_FILENO, s);
+pub fn text(rt: &impl Print, s: &[u8]) -> io::Result<()> {
+    rt.write_all(s)
 }
 
 // The first n bytes of a slice, or all of it where it has fewer.
@@ -34,171 +32,161 @@ pub fn first(bytes: &[u8], n: usize) -> &[u8]
 }
 
 // The end of a line.
-pub fn line_end() {
-    text(b"\n");
+pub fn line_end(rt: &impl Print) -> io::Result<()> {
+    text(rt, b"\n")
 }
 
 // A refusal without a line end: its number and the number beside it.
-pub fn refusal(number_of: u8, beside: usize) {
-    text(b"refused ");
-    number(wide(number_of));
-    text(b" ");
-    number(beside);
+pub fn refusal(rt: &impl Print, number_of: u8, beside: usize) -> io::Result<()> {
+    text(rt, b"refused ")?;
+    number(rt, wide(number_of))?;
+    text(rt, b" ")?;
+    number(rt, beside)
 }
 
 // A line for a refusal.
-pub fn refused(number_of: u8, beside: usize) {
-    refusal(number_of, beside);
-    line_end();
+pub fn refused(rt: &impl Print, number_of: u8, beside: usize) -> io::Result<()> {
+    refusal(rt, number_of, beside)?;
+    line_end(rt)
 }
 
 // Puts a byte behind the first `used` ones; where there is no room for it, those are written and it becomes the first. Answers how many
 // there are then.
-fn push(out: &mut [u8; PIECE], used: usize, byte: u8) -> usize
+fn push(rt: &impl Print, out: &mut [u8; PIECE], used: usize, byte: u8) -> io::Result<usize>
     requires { used ≤ 256 }
-    ensures { result ≤ 256 }
+    ensures { IfOk result (λ r. r ≤ 256) }
 {
     if used == PIECE {
-        text(&out[..]);
+        text(rt, &out[..])?;
         out[0] = byte;
-        return 1;
+        return Ok(1);
     }
     out[used] = byte;
-    used + 1
+    Ok(used + 1)
 }
 
 // The same for one byte after the other.
-fn push_all(out: &mut [u8; PIECE], used: usize, bytes: &[u8]) -> usize
+fn push_all(rt: &impl Print, out: &mut [u8; PIECE], used: usize, bytes: &[u8]) -> io::Result<usize>
     requires { used ≤ 256 }
-    ensures { result ≤ 256 }
+    ensures { IfOk result (λ r. r ≤ 256) }
 {
     let mut end = used;
     let mut i: usize = 0;
     while i < bytes.len() {
-        end = push(out, end, bytes[i]);
+        end = push(rt, out, end, bytes[i])?;
         i += 1;
     }
-    end
+    Ok(end)
 }
 
 // The same for a blank and the digits of a number.
-fn spell(out: &mut [u8; PIECE], used: usize, number_of: u8) -> usize
+fn spell(rt: &impl Print, out: &mut [u8; PIECE], used: usize, number_of: u8) -> io::Result<usize>
     requires { used ≤ 256 }
-    ensures { result ≤ 256 }
+    ensures { IfOk result (λ r. r ≤ 256) }
 {
-    let mut digits = [0u8; MOST_DIGITS];
-    let count = io::decimal(number_of as u64, &mut digits);
-    let end = push(out, used, b' ');
-    push_all(out, end, &digits[..count])
+    let mut digits = Buffer::new();
+    let end = push(rt, out, used, b' ')?;
+    push_all(rt, out, end, digits.format(number_of).as_bytes())
 }
 
 // Numbers, each with a blank before it. They are put together in the lent bytes, and written when these are full: a long run takes few
 // writes.
-fn spelled(numbers: &[u8], out: &mut [u8; PIECE]) {
+fn spelled(rt: &impl Print, numbers: &[u8], out: &mut [u8; PIECE]) -> io::Result<()> {
     let mut used: usize = 0;
     let mut i: usize = 0;
     while i < numbers.len() {
-        used = spell(out, used, numbers[i]);
+        used = spell(rt, out, used, numbers[i])?;
         i += 1;
     }
-    text(first(out, used));
+    text(rt, first(out, used))
 }
 
 // A run without a line end: its length, then its numbers.
-pub fn run(numbers: &[u8]) {
-    number(numbers.len());
+pub fn run(rt: &impl Print, numbers: &[u8]) -> io::Result<()> {
+    number(rt, numbers.len())?;
     let mut out = [0u8; PIECE];
-    spelled(numbers, &mut out);
+    spelled(rt, numbers, &mut out)
 }
 
 // Counts of tokens with a blank between each two, and no line end.
-pub fn tokens(counts: &[u8]) {
+pub fn tokens(rt: &impl Print, counts: &[u8]) -> io::Result<()> {
     let mut i: usize = 0;
     while i < counts.len() {
         if 0 < i {
-            text(b" ");
+            text(rt, b" ")?;
         }
-        number(wide(counts[i]));
+        number(rt, wide(counts[i]))?;
         i += 1;
     }
+    Ok(())
 }
 
 // One of two texts.
-fn either<'a>(first_one: bool, one: &'a [u8], other: &'a [u8]) {
+fn either<'a>(rt: &impl Print, first_one: bool, one: &'a [u8], other: &'a [u8]) -> io::Result<()> {
     if first_one {
-        text(one);
+        text(rt, one)
     } else {
-        text(other);
+        text(rt, other)
     }
 }
 
 // The marking that a replay reached, with a count for each place: the tokens of the system, then those of the pattern.
-fn marking(done: Replayed, net: Net, pattern_net: PatternNet) {
+fn marking(rt: &impl Print, done: Replayed, net: Net, pattern_net: PatternNet) -> io::Result<()> {
     let system = done.system;
     let pattern = done.pattern;
-    tokens(first(&system, wide(net.places)));
-    text(b" | ");
-    tokens(first(&pattern, wide(pattern_net.places)));
+    tokens(rt, first(&system, wide(net.places)))?;
+    text(rt, b" | ")?;
+    tokens(rt, first(&pattern, wide(pattern_net.places)))
 }
 
 // Why a replay stopped; a refusal has a line of its own.
-fn reason(stop: Stop) {
+fn reason(rt: &impl Print, stop: Stop) -> io::Result<()> {
     match stop {
-        Stop::RunEnded => {
-            text(b"run ended");
-        }
-        Stop::BudgetSpent => {
-            text(b"budget spent");
-        }
-        Stop::NotFirable => {
-            text(b"not firable");
-        }
-        Stop::CapPassed => {
-            text(b"cap passed");
-        }
-        Stop::Refused(_, _) => {}
+        Stop::RunEnded => text(rt, b"run ended"),
+        Stop::BudgetSpent => text(rt, b"budget spent"),
+        Stop::NotFirable => text(rt, b"not firable"),
+        Stop::CapPassed => text(rt, b"cap passed"),
+        Stop::Refused(_, _) => Ok(()),
     }
 }
 
 // A replay that was made: how many it fired, the marking with a text before it, whether that is final, why it stopped, and whether the run
 // explains the log, with a text between them.
 fn made<'a>(
+    rt: &impl Print,
     done: Replayed,
     net: Net,
     pattern_net: PatternNet,
     before_marking: &'a [u8],
     between: &'a [u8],
-) {
-    text(b"fired ");
-    number(done.fired);
-    text(between);
-    text(before_marking);
-    marking(done, net, pattern_net);
-    text(between);
-    either(done.matches, b"final", b"not final");
-    text(between);
+) -> io::Result<()> {
+    text(rt, b"fired ")?;
+    number(rt, done.fired)?;
+    text(rt, between)?;
+    text(rt, before_marking)?;
+    marking(rt, done, net, pattern_net)?;
+    text(rt, between)?;
+    either(rt, done.matches, b"final", b"not final")?;
+    text(rt, between)?;
     let stop = done.stop;
-    reason(stop);
-    text(between);
-    either(done.explains, b"explains", b"no");
-    line_end();
+    reason(rt, stop)?;
+    text(rt, between)?;
+    either(rt, done.explains, b"explains", b"no")?;
+    line_end(rt)
 }
 
 // A replay of a case with these nets; or a line for its refusal.
 pub fn replayed<'a>(
+    rt: &impl Print,
     done: Replayed,
     net: Net,
     pattern_net: PatternNet,
     before_marking: &'a [u8],
     between: &'a [u8],
-) {
+) -> io::Result<()> {
     let stop = done.stop;
     match stop {
-        Stop::Refused(number_of, beside) => {
-            refused(number_of, beside);
-        }
-        _ => {
-            made(done, net, pattern_net, before_marking, between);
-        }
+        Stop::Refused(number_of, beside) => refused(rt, number_of, beside),
+        _ => made(rt, done, net, pattern_net, before_marking, between),
     }
 }

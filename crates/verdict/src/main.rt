@@ -3,45 +3,48 @@
 
 #![tactic(auto)]
 
-use libc::STDIN_FILENO;
 use rack::{Judged, LONGEST_FILE, Verdict, WORK_ROOM};
+use std::io;
 
 // A line for a shown run.
-fn print_run(letter: &[u8], room: &[u8; 2048], length: usize) {
-    report::text(letter);
-    report::run(report::first(room, length));
-    report::line_end();
+fn print_run(rt: &impl Print, letter: &[u8], room: &[u8; 2048], length: usize) -> io::Result<()> {
+    report::text(rt, letter)?;
+    report::run(rt, report::first(room, length))?;
+    report::line_end(rt)
 }
 
 // The answer, with the rooms that the runs were written to.
-fn print(judged: Judged, matching: &[u8; 2048], other: &[u8; 2048]) {
+fn print(
+    rt: &impl Print,
+    judged: Judged,
+    matching: &[u8; 2048],
+    other: &[u8; 2048],
+) -> io::Result<()> {
     let verdict = judged.verdict;
     match verdict {
         Verdict::Faulty => {
-            report::text(b"faulty\n");
-            print_run(b"F ", matching, judged.matching);
+            report::text(rt, b"faulty\n")?;
+            print_run(rt, b"F ", matching, judged.matching)
         }
         Verdict::Safe => {
-            report::text(b"safe\n");
-            print_run(b"C ", other, judged.other);
+            report::text(rt, b"safe\n")?;
+            print_run(rt, b"C ", other, judged.other)
         }
         Verdict::Ambiguous => {
-            report::text(b"ambiguous\n");
-            print_run(b"F ", matching, judged.matching);
-            print_run(b"C ", other, judged.other);
+            report::text(rt, b"ambiguous\n")?;
+            print_run(rt, b"F ", matching, judged.matching)?;
+            print_run(rt, b"C ", other, judged.other)
         }
-        Verdict::Refused(number, beside) => {
-            report::refused(number, beside);
-        }
+        Verdict::Refused(number, beside) => report::refused(rt, number, beside),
     }
 }
 
-fn main() {
+fn main(rt: HostRuntime) -> io::Result<()> {
     let mut file = [0u8; LONGEST_FILE + 1];
     let mut matching = [0u8; 2048];
     let mut other = [0u8; 2048];
     let mut work = [0u8; WORK_ROOM];
-    let n = io::read_full(STDIN_FILENO, &mut file);
+    let n = input::read_full(&mut rt.stdin(), &mut file)?;
     let judged = judge::judge(&file[..n], &mut matching, &mut other, &mut work);
-    print(judged, &matching, &other);
+    print(&rt, judged, &matching, &other)
 }

@@ -1,0 +1,6 @@
+-- A number that is found is small enough.
+use Rattle.arguments.proofs.Spelling.{says_small}
+use Rattle.arguments.proofs.argument.Goals as goal
+
+pub returns : goal.returns
+returns g c = says_small _ _ c.number.ensures
