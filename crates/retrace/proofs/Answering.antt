@@ -34,7 +34,6 @@ use Rattle.reader.proofs.Given.{given_whole}
 use Rattle.engine.specs.Markings.{product_of}
 use Rattle.pattern.specs.Outcome.{CheckedSays}
 use Rattle.pattern.specs.declared.Checked.{Checked}
-use Rattle.pattern.specs.declared.Checked.TheVariants as Checked
 use Rattle.retrace.specs.Firings.{position_of, FiredSays}
 use Rattle.retrace.specs.declared.Fired.{Fired}
 use Rattle.retrace.proofs.Positions.{position_explains}
@@ -91,6 +90,7 @@ layout_refuses {f} {run} {budget} {n = n} {m = m} (reader.refused {m = k} (speak
     let two : 2 ≡ n = cc in
     let place : k ≡ m = cc in
     subst (ReplayIs f run budget) (ap (λ (i : ℕ). replay_refused i k) two ∙ ap (replay_refused n) place ∙ sym q) (refused (speaks b))
+layout_refuses {f} {run} {budget} {n = n} {m = m} {a = a} (reader.refused {m = k} (rests _ x)) e q = elim x [ ]
 
 -- the file reads as the case c
 module _ {f : List ℕ} {r : Reading} {c : Case} (h : ReaderIs f r) (whole : r.outcome ≡ Outcome.Whole) (made : c ≡ r.case) where

@@ -10,7 +10,8 @@ use Rattle.pieces.proofs.kinds.push_lg.Goals as goal
 
 pub push_part-requires : goal.push_part-requires
 push_part-requires c =
-    let h = (let it : length c.args.log.labels ≡ 40 = search rules in it) in
+    let labels-long : length c.args.log.labels ≡ 40 = search rules in
+    let h = labels-long in
     (omega (arith, h, c.wide.ensures), omega (arith, c.wide.ensures, c.push_two-body.ensures, c.push-first.ensures))
 
 pub returns : goal.returns

@@ -8,7 +8,8 @@ use Rattle.pieces.proofs.kinds.push_nt.Goals as goal
 
 pub push_net-requires : goal.push_net-requires
 push_net-requires c =
-    let h = (let it : length c.args.net.first ≡ 16 = search rules in it) in
+    let first-long : length c.args.net.first ≡ 16 = search rules in
+    let h = first-long in
     (omega (arith, h), omega arith)
 
 pub returns : goal.returns

@@ -9,7 +9,8 @@ use Rattle.pieces.proofs.kinds.push_ob.Goals as goal
 
 pub push_row-requires : goal.push_row-requires
 push_row-requires c =
-    let h = (let it : length c.args.observable.flags ≡ 32 = search rules in it) in
+    let flags_long : length c.args.observable.flags ≡ 32 = search rules in
+    let h = flags_long in
     (omega (arith, h), omega (arith, c.push_two-body.ensures))
 
 pub returns : goal.returns

@@ -7,7 +7,11 @@ use Rattle.rack.specs.Writing.{px_bytes}
 use Rattle.pieces.proofs.kinds.push_px.Goals as goal
 
 pub push_arcs-requires : goal.push_arcs-requires
-push_arcs-requires c = (omega (arith, (let it : length c.args.arcs.labels ≡ 16 = search rules in it), c.requires), omega (arith, (let it : length c.args.arcs.pre ≡ 128 = search rules in it), c.requires), omega (arith, (let it : length c.args.arcs.post ≡ 128 = search rules in it), c.requires), omega (arith, c.requires))
+push_arcs-requires c =
+    let labels-long : length c.args.arcs.labels ≡ 16 = search rules in
+    let pre-long : length c.args.arcs.pre ≡ 128 = search rules in
+    let post-long : length c.args.arcs.post ≡ 128 = search rules in
+    (omega (arith, labels-long, c.requires), omega (arith, pre-long, c.requires), omega (arith, post-long, c.requires), omega (arith, c.requires))
 
 pub returns : goal.returns
 unfolding px_bytes

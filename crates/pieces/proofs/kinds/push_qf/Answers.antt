@@ -18,20 +18,26 @@ pub push_two-body-requires : goal.push_two-body-requires
 push_two-body-requires c = omega (arith, c.requires, c.loop-g-test.true, c.loop-g.invariant.1, c.loop-g.invariant.2.long)
 
 pub slice_bounds-push_bounds-end : goal.slice_bounds-push_bounds-end
-slice_bounds-push_bounds-end c = sym ((let it : length c.args.bounds.least ≡ 64 = search rules in it))
+slice_bounds-push_bounds-end c =
+    let least-long : length c.args.bounds.least ≡ 64 = search rules in
+    sym (least-long)
 
 pub slice_bounds-push_bounds-end-in-loop-g : goal.slice_bounds-push_bounds-end-in-loop-g
-slice_bounds-push_bounds-end-in-loop-g c = sym ((let it : length c.args.bounds.most ≡ 64 = search rules in it))
+slice_bounds-push_bounds-end-in-loop-g c =
+    let most-long : length c.args.bounds.most ≡ 64 = search rules in
+    sym (most-long)
 
 pub overflow_mul-wide : goal.overflow_mul-wide
 overflow_mul-wide c = omega (arith, c.wide.ensures)
 
 pub push_bounds-next-requires : goal.push_bounds-next-requires
-push_bounds-next-requires c = (
-  omega (arith, (let it : length c.args.bounds.least ≡ 64 = search rules in it), c.requires, c.wide.ensures, c.loop-g-test.true),
-  omega (arith, (let it : length c.args.bounds.most ≡ 64 = search rules in it), c.requires, c.wide.ensures, c.loop-g-test.true),
-  omega (arith, c.requires, c.loop-g-test.true, c.loop-g.invariant.1, c.loop-g.invariant.2.long, c.push_two-body.ensures),
-)
+push_bounds-next-requires c =
+    let least-long : length c.args.bounds.least ≡ 64 = search rules in
+    let most-long : length c.args.bounds.most ≡ 64 = search rules in (
+      omega (arith, least-long, c.requires, c.wide.ensures, c.loop-g-test.true),
+      omega (arith, most-long, c.requires, c.wide.ensures, c.loop-g-test.true),
+      omega (arith, c.requires, c.loop-g-test.true, c.loop-g.invariant.1, c.loop-g.invariant.2.long, c.push_two-body.ensures),
+    )
 
 pub loop-g-preserved : goal.loop-g-preserved
 unfolding qf_bytes
