@@ -17,29 +17,20 @@ loop-t-init c = spread_start _ _ (search rules)
 
 pub bounds-marks-n : goal.bounds-marks-n
 bounds-marks-n c =
-    -- what is known of the transition that is to be marked, and that it is one of the 48
-    let next-open : OpenAt (planned c.args.plan.now) c.loop-t.marks c.in-At.t.0 =
-    (let it : OpenSays (planned c.args.plan.now) c.loop-t.marks (At c.in-At.t) = subst (OpenSays (planned c.args.plan.now) c.loop-t.marks) c.in-At.is c.open_pair-found.ensures in it) in
-    let next_low : c.in-At.t.0 < 48 =
-    let o = next-open in omega (arith, o.is, lower_low c.requires.well_formed o.pair o.below) in
+    let next-open : OpenAt (planned c.args.plan.now) c.loop-t.marks c.in-At.t.0 = (let it : OpenSays (planned c.args.plan.now) c.loop-t.marks (At c.in-At.t) = subst (OpenSays (planned c.args.plan.now) c.loop-t.marks) c.in-At.is c.open_pair-found.ensures in it) in
+    let next_low : c.in-At.t.0 < 48 = let o = next-open in omega (arith, o.is, lower_low c.requires.well_formed o.pair o.below) in
     next_low
 
 pub loop-t-smaller : goal.loop-t-smaller
 loop-t-smaller c =
-    -- what is known of the transition that is to be marked, and that it is one of the 48
-    let next-open : OpenAt (planned c.args.plan.now) c.loop-t.marks c.in-At.t.0 =
-    (let it : OpenSays (planned c.args.plan.now) c.loop-t.marks (At c.in-At.t) = subst (OpenSays (planned c.args.plan.now) c.loop-t.marks) c.in-At.is c.open_pair-found.ensures in it) in
-    let next_low : c.in-At.t.0 < 48 =
-    let o = next-open in omega (arith, o.is, lower_low c.requires.well_formed o.pair o.below) in
+    let next-open : OpenAt (planned c.args.plan.now) c.loop-t.marks c.in-At.t.0 = (let it : OpenSays (planned c.args.plan.now) c.loop-t.marks (At c.in-At.t) = subst (OpenSays (planned c.args.plan.now) c.loop-t.marks) c.in-At.is c.open_pair-found.ensures in it) in
+    let next_low : c.in-At.t.0 < 48 = let o = next-open in omega (arith, o.is, lower_low c.requires.well_formed o.pair o.below) in
     unmarked_less _ _ (omega (arith, next_low, c.loop-t.invariant.long)) (next-open).fresh
 
 pub loop-t-preserved : goal.loop-t-preserved
 loop-t-preserved c =
-    -- what is known of the transition that is to be marked, and that it is one of the 48
-    let next-open : OpenAt (planned c.args.plan.now) c.loop-t.marks c.in-At.t.0 =
-    (let it : OpenSays (planned c.args.plan.now) c.loop-t.marks (At c.in-At.t) = subst (OpenSays (planned c.args.plan.now) c.loop-t.marks) c.in-At.is c.open_pair-found.ensures in it) in
-    let next_low : c.in-At.t.0 < 48 =
-    let o = next-open in omega (arith, o.is, lower_low c.requires.well_formed o.pair o.below) in
+    let next-open : OpenAt (planned c.args.plan.now) c.loop-t.marks c.in-At.t.0 = (let it : OpenSays (planned c.args.plan.now) c.loop-t.marks (At c.in-At.t) = subst (OpenSays (planned c.args.plan.now) c.loop-t.marks) c.in-At.is c.open_pair-found.ensures in it) in
+    let next_low : c.in-At.t.0 < 48 = let o = next-open in omega (arith, o.is, lower_low c.requires.well_formed o.pair o.below) in
     spread_more c.loop-t.invariant _ (next_low) (next-open)
 
 pub bounds-marks-last : goal.bounds-marks-last
