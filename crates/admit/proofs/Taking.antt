@@ -6,7 +6,7 @@ use native.Mathlib.Omega.{arith}
 use lib.ListN.{length, replicate}
 use Rattle.rack.specs.Layout.{ReadsAs}
 use Rattle.rack.specs.WellFormed.{WellFormed}
-use Rattle.rack.specs.Refusal.{speaks}
+use Rattle.rack.specs.Refusal.{speaks, rests}
 use Rattle.rack.specs.Outcome.{zeroed}
 use Rattle.rack.specs.CaseFileOutcome.{ReaderIs, read, refused}
 use Rattle.rack.specs.declared.Case.{Case}
@@ -29,6 +29,7 @@ open_refuses {f} {needed} {work₀} {plan} {work} x e z = record { answer = subs
 number_two : {f : List ℕ} {r : Reading} {n m : ℕ} → ReaderIs f r → r.outcome ≡ Outcome.Refused n m → n ≡ 2
 number_two (read x) e = let z : ◌≡◌ {A = ℕ} 0 1 = cc in absurd (omega arith)
 number_two (refused (speaks b)) e = cc
+number_two (ReaderIs.refused (rests _ x)) e = elim x [ ]
 
 pub reader_refuses : {f : List ℕ} {r : Reading} {n m : ℕ} → ReaderIs f r → r.outcome ≡ Outcome.Refused n m → RefusedFile f n m
 reader_refuses {f} {m = m} x e = subst (λ (k : ℕ). RefusedFile f k m) (sym (number_two x e)) (of_layout (given_refused x e))

@@ -15,28 +15,28 @@ higher-above-requires c =
     -- there is a pair k
     let known : c.loop-k.k < (planned c.args.plan.now).pairs.count =
     omega (arith, c.loop-k-test.true, c.pairs-count.ensures) in
-    pair_low c.requires _ (known)
+    pair_low c.requires _ known
 
 pub lower-under-requires : goal.lower-under-requires
 lower-under-requires c =
     -- there is a pair k
     let known : c.loop-k.k < (planned c.args.plan.now).pairs.count =
     omega (arith, c.loop-k-test.true, c.pairs-count.ensures) in
-    pair_low c.requires _ (known)
+    pair_low c.requires _ known
 
 pub bounds-marks-above : goal.bounds-marks-above
 bounds-marks-above c =
     -- there is a pair k
     let known : c.loop-k.k < (planned c.args.plan.now).pairs.count =
     omega (arith, c.loop-k-test.true, c.pairs-count.ensures) in
-    omega (arith, higher_low c.requires _ (known), c.higher-above.ensures)
+    omega (arith, higher_low c.requires _ known, c.higher-above.ensures)
 
 pub bounds-marks-under : goal.bounds-marks-under
 bounds-marks-under c =
     -- there is a pair k
     let known : c.loop-k.k < (planned c.args.plan.now).pairs.count =
     omega (arith, c.loop-k-test.true, c.pairs-count.ensures) in
-    omega (arith, lower_low c.requires _ (known), c.lower-under.ensures)
+    omega (arith, lower_low c.requires _ known, c.lower-under.ensures)
 
 pub returns-then-marks-under-ne1 : goal.returns-then-marks-under-ne1
 returns-then-marks-under-ne1 c =
