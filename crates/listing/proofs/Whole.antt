@@ -13,7 +13,6 @@ use Rattle.rack.specs.declared.Listed.TheVariants.{Refused}
 use Rattle.plan.specs.Plan.{planned}
 use Rattle.admit.specs.Admits.{of_layout, of_nets, short, of_file_lem, Opened, OpenSays}
 use Rattle.admit.specs.declared.Answer.{Answer}
-use Rattle.admit.specs.declared.Answer.TheVariants as Answer
 use Rattle.listing.specs.Barred.{Barred, by_neither, BeginRefuses, of_bar, of_open, BeginAnswer, BeginSays}
 use Rattle.listing.specs.CaseListed.{ListedSays, Listing}
 use Rattle.listing.proofs.Listing.{barred_outcome, broken_file, nets_refuse, listing_of}

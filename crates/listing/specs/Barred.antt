@@ -6,7 +6,6 @@ use Rattle.rack.specs.Outcome.{zeroed}
 use Rattle.rack.specs.ListingOutcome.{limit_most}
 use Rattle.admit.specs.Admits.{OpenRefuses, Opened}
 use Rattle.admit.specs.declared.Answer.{Answer}
-use Rattle.admit.specs.declared.Answer.TheVariants as Answer
 
 -- "Listing: 1, 12, 2 to 9, 13, 11.": with a work room of so many bytes and the limit, the first of 1 and 12 that speaks; 0: neither does
 pub data Barred (work limit : ℕ) : ℕ → Type 0 where
