@@ -112,6 +112,3 @@ says_small l most {r} e = subst (NumberSays most) (sym e) (go (ltb 0 (length l))
     go true true false q = tt
     go true false c q = tt
     go false b c q = tt
-
-pub number_small : {most n : ℕ} {r : Spelled} → NumberSays most r → r ≡ Number n → n ≤ most
-number_small {most} h e = subst (NumberSays most) e h

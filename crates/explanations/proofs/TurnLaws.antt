@@ -1,9 +1,9 @@
 -- What a line of the listing says of its run, from the outcome of the call. Assumes nothing.
-use Prim.Native.Nat.{ℕ, ◌-◌, ◌<◌, ◌≤◌}
+use Prim.Native.Nat.{ℕ, ◌<◌, ◌≤◌}
 use mathlib.Core.Path.{◌≡◌, sym, subst}
 use mathlib.Core.List.{List}
 use native.Mathlib.Omega.{arith}
-use lib.ListN.{length, length-append, take, drop}
+use lib.ListN.{length, length-append, drop}
 use lib.Seq.{take-append_seam}
 use Rattle.rack.specs.Outcome.{holding}
 use Rattle.rack.specs.Listing.{Asked, after, later, NextIs}
@@ -11,9 +11,8 @@ use Rattle.rack.specs.ListingOutcome.{ListingIs}
 use Rattle.rack.specs.ListingOutcome.ListingIsIn.{matching, other, end, refused}
 use Rattle.rack.specs.declared.Case.{Case}
 use Rattle.rack.specs.declared.Listed.{Listed}
-use Rattle.explanations.specs.Turns.{shown_of, rank, top_rank, ShownSays, Comes, LaterSays}
+use Rattle.explanations.specs.Turns.{shown_of, rank, Comes, LaterSays}
 use Rattle.explanations.specs.declared.Shown.{Shown}
-use Rattle.explanations.specs.declared.Shown.TheVariants.{Run}
 use Rattle.explanations.proofs.Ranks.{Bytes, later-rank, below_top}
 
 -- a room of 24 bytes that holds a run
@@ -32,15 +31,6 @@ module _ {given : List ℕ} (bytes : Bytes given) (short : length given ≤ 24) 
       }
 
 module _ {f : List ℕ} {limit : ℕ} {room work : List ℕ} where
-  shown_short : {asked : Asked} {x : Listed} {a w : List ℕ} → ListingIs f limit asked room work x a w → length a ≡ 24 → ShownSays (shown_of x)
-  shown_short (matching {r = r} g p u k) e = holds_short r room e
-  shown_short (other {r = r} g p u k) e = holds_short r room e
-  shown_short (end g p u) e = tt
-  shown_short (refused u) e = tt
-
-  pub told_first : {asked : Asked} {x : Listed} {a w : List ℕ} {s : Shown} → ListingIs f limit asked room work x a w → length a ≡ 24 → s ≡ shown_of x → ShownSays s
-  told_first l e q = subst ShownSays (sym q) (shown_short l e)
-
   module _ {given : List ℕ} (bytes : Bytes given) (short : length given ≤ 24) where
     shown-later : {x : Listed} {a w : List ℕ} → ListingIs f limit (after given) room work x a w → length a ≡ 24 → LaterSays given (shown_of x) a
     shown-later (matching {r = r} g p u k) e = comes bytes short r room u e
@@ -50,14 +40,3 @@ module _ {f : List ℕ} {limit : ℕ} {room work : List ℕ} where
 
     pub told_next : {x : Listed} {a w : List ℕ} {s : Shown} → ListingIs f limit (after given) room work x a w → length a ≡ 24 → s ≡ shown_of x → LaterSays given s a
     told_next {a = a} l e q = subst (λ (s : Shown). LaterSays given s a) (sym q) (shown-later l e)
-
--- ---- the turns
-
-pub run_short : {m : ℕ} {s : Shown} → ShownSays s → s ≡ Run m → m ≤ 24
-run_short h e = subst ShownSays e h
-
-pub run_comes : {given a : List ℕ} {m : ℕ} {s : Shown} → LaterSays given s a → s ≡ Run m → Comes given m a
-run_comes {given} {a} h e = subst (λ (s : Shown). LaterSays given s a) e h
-
-pub fewer : {given a : List ℕ} {m : ℕ} → Comes given m a → top_rank - rank (take m a) < top_rank - rank given
-fewer h = omega (arith, h.later, h.below)
