@@ -17,7 +17,7 @@ use Rattle.plan.specs.Plan.{planned}
 use Rattle.reader.proofs.Given.{given_whole, given_refused}
 use Rattle.admit.specs.declared.Answer.{Answer}
 use Rattle.admit.specs.declared.Answer.TheVariants.{Table, Refused}
-use Rattle.admit.specs.Admits.{AnswerSays, CaseSays, RefusedFile, of_layout, of_nets, OpenRefuses, of_file_lem, Opened, OpenAnswer, OpenSays}
+use Rattle.admit.specs.Admits.{AnswerSays, CaseSays, RefusedFile, of_layout, of_nets, OpenRefuses, of_refused_file, Opened, OpenAnswer, OpenSays}
 
 -- ---- a refusal
 
@@ -47,7 +47,7 @@ module _ {f : List ℕ} {r : Reading} (x : ReaderIs f r) (whole : r.outcome ≡ 
 
     module _ {work room : List ℕ} {a : Answer} (y : CaseSays (planned plan) work room a) where
       pub checks_refuse : {needed n m : ℕ} → needed ≤ length work → a ≡ Refused n m → OpenRefuses f needed (length work) n m
-      checks_refuse h e = of_file_lem h (of_nets plan_reads (subst (AnswerSays (planned plan) room) e y.answer))
+      checks_refuse h e = of_refused_file h (of_nets plan_reads (subst (AnswerSays (planned plan) room) e y.answer))
 
       pub checks_pass : {needed n : ℕ} {r : Answer} → needed ≤ length work → a ≡ Table n → r ≡ Table n → OpenSays f needed work plan room r
       checks_pass {needed} h e q =

@@ -44,7 +44,7 @@ pub data RefusedFile (f : List ℕ) : ℕ → ℕ → Type 0 where
 -- in a work room of that length, of which `needed` bytes are needed, the first of 1 to 9 that speaks is n, with m beside it
 pub data OpenRefuses (f : List ℕ) (needed long : ℕ) : ℕ → ℕ → Type 0 where
   short : long < needed → OpenRefuses f needed long 1 0
-  of_file_lem : {n m : ℕ} → needed ≤ long → RefusedFile f n m → OpenRefuses f needed long n m
+  of_refused_file : {n m : ℕ} → needed ≤ long → RefusedFile f n m → OpenRefuses f needed long n m
 
 -- none speaks: the plan is that of the file's case, and the first n rows of the work room are its reachable product markings
 pub record Opened (f : List ℕ) (needed : ℕ) (work₀ plan work : List ℕ) (n : ℕ) : Type 0 where

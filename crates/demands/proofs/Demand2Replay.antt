@@ -79,7 +79,7 @@ module _ (c : Case) (run : List ℕ) (budget : ℕ) where
         marking = refl;
         is-final = refl;
         stops = stops;
-        says_explains_lem = λ e.
+        explains_truly = λ e.
             let t = of_true (eqb n (length run) && explains c run) e in
             (eqb-true n (length run) (is_true (eqb n (length run)) (and_left (eqb n (length run)) (explains c run) t)), explains_of c run (and_right (eqb n (length run)) (explains c run) t));
         explains_said = λ e x. is_true (eqb n (length run) && explains c run) (and_both (eqb n (length run)) (explains c run) (of_true _ (eq-eqb n (length run) e)) (explains_yes c run x));

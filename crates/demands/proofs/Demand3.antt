@@ -65,7 +65,7 @@ run_bytes r reads x = low_more 48 _ (omega arith) r (run_low r reads x)
 
 -- what an answer says: the end, and none is left; or the next explanation, truly marked, at the front of the room
 pub data Told (c : Case) (limit : ℕ) (a : Asked) : Listed → List ℕ → Type 0 where
-  at_end_lem : {room : List ℕ} → EndIs c limit a → Told c limit a End room
+  at_the_end : {room : List ℕ} → EndIs c limit a → Told c limit a End room
   next : {k : Bool} {r room : List ℕ} → NextIs c limit a r → matches c r ≡ k → take (length r) room ≡ r → Told c limit a (gives k (length r)) room
 
 module _ {f : List ℕ} {c : Case} (reads : ReadsAs f c) (ok : NetsPass c) (limit : ℕ) (low : limit ≤ limit_most) (a : Asked) (good : GivenBad c limit a → ⊥) (room work : List ℕ)
@@ -79,7 +79,7 @@ module _ {f : List ℕ} {c : Case} (reads : ReadsAs f c) (ok : NetsPass c) (limi
       next {k = true} (subst (λ (e : Case). NextIs e limit a r) (one_case p reads) u) (subst (λ (e : Case). matches e r ≡ true) (one_case p reads) s) (front r room)
   told (list.other {c = d} {r = r} g p u s) =
       next {k = false} (subst (λ (e : Case). NextIs e limit a r) (one_case p reads) u) (subst (λ (e : Case). matches e r ≡ false) (one_case p reads) s) (front r room)
-  told (list.end g p u) = at_end_lem (subst (λ (e : Case). EndIs e limit a) (one_case p reads) u)
+  told (list.end g p u) = at_the_end (subst (λ (e : Case). EndIs e limit a) (one_case p reads) u)
   told (list.refused g) = absurd (not_refused g)
 
 -- ---- one run, and the whole listing after it
@@ -117,7 +117,7 @@ module _ {f : List ℕ} {c : Case} (reads : ReadsAs f c) (ok : NetsPass c) (limi
   one_more a bytes good rest = go (p a).answer refl (told reads ok limit low a good (room a) (work a) (enough.for_runs a) (enough.for_work a) (meets a bytes))
     where
       go : (x : Listed) → (p a).answer ≡ x → Told c limit a x (p a).room → Lists c limit p a
-      go x e (at_end_lem z) = record { all = []; asked = ended e; whole = whole_end c limit a z }
+      go x e (at_the_end z) = record { all = []; asked = ended e; whole = whole_end c limit a z }
       go x e (next {k = k} {r = r} z m t) =
           let more = rest r z in
           record {

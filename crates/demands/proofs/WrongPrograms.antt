@@ -144,7 +144,7 @@ module _ (room work : List ℕ) (r : 3 ≤ length room) (enough : work_room ≤ 
 pattern_accept : NetAccepts h4 pattern_order
 pattern_accept =
     let p = h4_passes in
-    also p.no_cycle_lem (also p.pattern_few_lem (also p.pattern_capped (also p.one_joins (also p.final_stays none))))
+    also p.acyclic (also p.few_patterns (also p.pattern_capped (also p.one_joins (also p.final_stays none))))
 
 passes : ReplayAccepts (bytes_of h4)
 passes =

@@ -31,5 +31,5 @@ pub record Fired (c : Case) (run : List ℕ) (budget : ℕ) (x : Replayed) : Typ
   pub marking : marking_of x ≡ end c (take x.fired run)
   pub is-final : x.matches ≡ final c x.pattern
   pub stops : StopsFor c run budget x.fired (marking_of x) x.stop
-  pub says_explains_lem : x.explains ≡ true → (x.fired ≡ length run) × Explains c run
+  pub explains_truly : x.explains ≡ true → (x.fired ≡ length run) × Explains c run
   pub explains_said : x.fired ≡ length run → Explains c run → x.explains ≡ true

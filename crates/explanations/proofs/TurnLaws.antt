@@ -6,7 +6,7 @@ use native.Mathlib.Omega.{arith}
 use lib.ListN.{length, length-append, drop}
 use lib.Seq.{take-append_seam}
 use Rattle.rack.specs.Outcome.{holding}
-use Rattle.rack.specs.Listing.{Asked, after, later, NextIs}
+use Rattle.rack.specs.Listing.{after, later, NextIs}
 use Rattle.rack.specs.ListingOutcome.{ListingIs}
 use Rattle.rack.specs.ListingOutcome.ListingIsIn.{matching, other, end, refused}
 use Rattle.rack.specs.declared.Case.{Case}

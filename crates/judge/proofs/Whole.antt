@@ -13,7 +13,7 @@ use Rattle.plan.specs.Plan.{planned}
 use Rattle.steps.specs.Walkable.{Ready}
 use Rattle.search.specs.Found.{SearchSays}
 use Rattle.search.specs.declared.Searched.{Searched}
-use Rattle.admit.specs.Admits.{NetsRefuse, of_pattern, of_product, of_layout, of_nets, OpenRefuses, short, of_file_lem, Opened}
+use Rattle.admit.specs.Admits.{NetsRefuse, of_pattern, of_product, of_layout, of_nets, OpenRefuses, short, of_refused_file, Opened}
 use Rattle.judge.specs.CaseJudged.{refused_by, Shown, CaseJudged, pattern_refused, product_refused, shown}
 use Rattle.judge.proofs.Judging.{short_room, broken_file, verdict_of}
 
@@ -29,8 +29,8 @@ module _ (f matching other work : List ℕ) where
   -- 1 to 9
   refused_outcome : {n m : ℕ} → OpenRefuses f work_room (length work) n m → VerdictIs f matching other work (refused_by n m) matching other (zeroed work)
   refused_outcome (short h) = short_room f matching other work h
-  refused_outcome (of_file_lem h (of_layout b)) = broken_file f matching other work h b
-  refused_outcome (of_file_lem h (of_nets x s)) = verdict_of f matching other work h x (nets_refuse s)
+  refused_outcome (of_refused_file h (of_layout b)) = broken_file f matching other work h b
+  refused_outcome (of_refused_file h (of_nets x s)) = verdict_of f matching other work h x (nets_refuse s)
 
   pub refusal : {x : Judged} {v : List ℕ} {n m : ℕ} → (v ≡ zeroed work) × OpenRefuses f work_room (length work) n m → x ≡ refused_by n m → VerdictIs f matching other work x matching other v
   refusal {x} {v} {n} {m} o e =

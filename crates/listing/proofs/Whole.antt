@@ -11,7 +11,7 @@ use Rattle.rack.specs.ListingOutcome.{limit_most, ListingIs}
 use Rattle.rack.specs.declared.Listed.{Listed}
 use Rattle.rack.specs.declared.Listed.TheVariants.{Refused}
 use Rattle.plan.specs.Plan.{planned}
-use Rattle.admit.specs.Admits.{of_layout, of_nets, short, of_file_lem, Opened, OpenSays}
+use Rattle.admit.specs.Admits.{of_layout, of_nets, short, of_refused_file, Opened, OpenSays}
 use Rattle.admit.specs.declared.Answer.{Answer}
 use Rattle.listing.specs.Barred.{Barred, by_neither, BeginRefuses, of_bar, of_open, BeginAnswer, BeginSays}
 use Rattle.listing.specs.CaseListed.{ListedSays, Listing}
@@ -57,8 +57,8 @@ module _ (f : List ℕ) (most : ℕ) (asked : Asked) (room work : List ℕ) wher
   refused_outcome : {n m : ℕ} → BeginRefuses f most (length work) n m → ListingIs f most asked room work (Refused n m) room (zeroed work)
   refused_outcome (of_bar b e) = barred_outcome f most asked room work b e
   refused_outcome (of_open b (short h)) = absurd (omega (arith, long_room b))
-  refused_outcome (of_open b (of_file_lem h (of_layout w))) = broken_file f most asked room work h (low_limit b) w
-  refused_outcome (of_open b (of_file_lem h (of_nets p s))) = nets_refuse f most asked room work h (low_limit b) p s
+  refused_outcome (of_open b (of_refused_file h (of_layout w))) = broken_file f most asked room work h (low_limit b) w
+  refused_outcome (of_open b (of_refused_file h (of_nets p s))) = nets_refuse f most asked room work h (low_limit b) p s
 
   pub refusal : {v : List ℕ} {n m : ℕ} → (v ≡ zeroed work) × BeginRefuses f most (length work) n m → ListingIs f most asked room work (Refused n m) room v
   refusal {v} {n} {m} o = subst (ListingIs f most asked room work (Refused n m) room) (sym o.0) (refused_outcome o.1)

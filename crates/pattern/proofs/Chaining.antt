@@ -155,9 +155,9 @@ module _ (c : Case) where
       }
 
   -- and in a cycle the first pair leads back
-  pub no_cycle_lem : ((k : ℕ) → k < c.pairs.count → PairBack c k → ⊥) → PairCycle c → ⊥
+  pub acyclic : ((k : ℕ) → k < c.pairs.count → PairBack c k → ⊥) → PairCycle c → ⊥
   unfolding ends lower_of
-  no_cycle_lem none r =
+  acyclic none r =
       let k = r.pair in
       let (first, rest) = walks_cons (pair_at c) (lower_of c) r.top k r.rest r.chain in
       none k (pair_below c r.top k first) (record { by = r.rest; walked = rest; there = r.round ∙ sym (pair_higher c r.top k first) })

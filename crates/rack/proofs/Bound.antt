@@ -135,7 +135,7 @@ unfolding log_of
 shown_most {f} {c} {k} {r} reads ok x =
     let w = well_formed reads in
     let short : length (log_of c) ≤ 40 = omega (arith, length-take c.log.count c.log.labels, w.log.names.few) in
-    shown_run_most c ok.pattern_capped w.pattern.tokens_within ok.system_capped k r x ok.product_few_lem short
+    shown_run_most c ok.pattern_capped w.pattern.tokens_within ok.system_capped k r x ok.few_products short
 
 pub verdict_short : {f matching other work : List ℕ} {x : Judged} {a b w : List ℕ} → VerdictIs f matching other work x a b w → (x.matching ≤ 20991) × (x.other ≤ 20991)
 verdict_short (faulty g p u) = (shown_most p (verdict_passes p g) u.shows, omega arith)

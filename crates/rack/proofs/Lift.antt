@@ -60,12 +60,12 @@ module _ (q : Question) (Says : Own → ℕ → Type 0) (Rests : Own → Type 0)
 
 pub passes_accept : {c : Case} → NetsPass c → NetAccepts c (pattern_order ++ product_order)
 passes_accept p =
-    also p.no_cycle_lem
-    (also p.pattern_few_lem (also p.pattern_capped (also p.one_joins (also p.final_stays (also p.product_few_lem (also p.system_capped none))))))
+    also p.acyclic
+    (also p.few_patterns (also p.pattern_capped (also p.one_joins (also p.final_stays (also p.few_products (also p.system_capped none))))))
 
 pub accept_passes : {c : Case} → NetAccepts c pattern_order → NetAccepts c product_order → NetsPass c
 accept_passes (also a (also b (also d (also e (also f u))))) (also g (also h v)) =
-    record { no_cycle_lem = a; pattern_few_lem = b; pattern_capped = d; one_joins = e; final_stays = f; product_few_lem = g; system_capped = h }
+    record { acyclic = a; few_patterns = b; pattern_capped = d; one_joins = e; final_stays = f; few_products = g; system_capped = h }
 
 -- a call that accepts a file has found nothing wrong with the nets of its case
 same_case : {f : List ℕ} {c : Case} {P : Case → Type 0} → ReadsAs f c → OfCase f P → P c
@@ -74,11 +74,11 @@ same_case {f} {c} {P} r x = subst P (one_case x.reads r) x.is
 pub verdict_passes : {q : Question} {Rests : Own → Type 0} {c : Case} → ReadsAs q.file c → Accepts q Rests verdict_order → NetsPass c
 verdict_passes r (also w (also l (also a (also b (also d (also e (also f (also g (also h v))))))))) =
     record {
-      no_cycle_lem = same_case r a;
-      pattern_few_lem = same_case r b;
+      acyclic = same_case r a;
+      few_patterns = same_case r b;
       pattern_capped = same_case r d;
       one_joins = same_case r e;
       final_stays = same_case r f;
-      product_few_lem = same_case r g;
+      few_products = same_case r g;
       system_capped = same_case r h;
     }

@@ -12,7 +12,7 @@ use Rattle.rack.specs.Listing.{Asked, NextIs, EndIs}
 use Rattle.rack.specs.Layout.{case_of_zeros, ReadsAs}
 use Rattle.rack.specs.Refusal.{Own, reader_order, writer_order, verdict_order, listing_order, replay_order, none, also}
 use Rattle.rack.specs.Outcome.{of_file, NoneSays, NoneRests, holding}
-use Rattle.rack.specs.CaseFileOutcome.{ReaderIs, log_offset, log_stretch, Address, further, LogIs, no_file, WriterSays, no_file_lem, room_short, WriterRests, some_file, room_long, WriterIs}
+use Rattle.rack.specs.CaseFileOutcome.{ReaderIs, log_offset, log_stretch, Address, further, LogIs, no_file, WriterSays, no_such_file, room_short, WriterRests, some_file, room_long, WriterIs}
 use Rattle.rack.specs.CaseFileOutcome as file
 use Rattle.rack.specs.VerdictOutcome.{of_verdict, Fits, TooLong, RunShort, matching_short, other_short, RunsFit, VerdictSays, none-explains, run_short}
 use Rattle.rack.specs.VerdictOutcome.{VerdictRests, one_explains, runs_fit, VerdictRefuses, VerdictAccepts, VerdictIs, faulty, safe, ambiguous}
@@ -66,11 +66,11 @@ log_one (file.refused p) (file.refused q) = (refl, refl)
 
 module _ (c : Case) (room : List ℕ) where
   written_or_not : {k : Own} {m : ℕ} → WriterSays c room k m → WriterRests c room k → ⊥
-  written_or_not (no_file_lem x) (some_file y) = x y
+  written_or_not (no_such_file x) (some_file y) = x y
   written_or_not (room_short x) (room_long y) = omega (arith, x, y)
 
   written_beside : {k : Own} {m n : ℕ} → WriterSays c room k m → WriterSays c room k n → m ≡ n
-  written_beside (no_file_lem x) (no_file_lem y) = refl
+  written_beside (no_such_file x) (no_such_file y) = refl
   written_beside (room_short x) (room_short y) = refl
 
   writer_apart : Apart (WriterSays c room) (WriterRests c room)

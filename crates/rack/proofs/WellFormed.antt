@@ -286,8 +286,8 @@ keeps Absent f s c a t w k = absurd w
 -- ---- the law
 
 -- after EN all of it has come
-at_end_lem : {c : Case} → Kept 9 c → WellFormed c
-at_end_lem k =
+at_the_end : {c : Case} → Kept 9 c → WellFormed c
+at_the_end k =
     record {
       net = k.system.net (omega arith);
       arcs = k.system.arcs;
@@ -307,7 +307,7 @@ Told (broken p) = Unit {0}
 
 reads_kept : {f : List ℕ} {k : ℕ} {c : Case} {a : ℕ} {e : Ending} → Reads f k c a e → k < 10 → Kept (stage k) c → Told e
 unfolding stage
-reads_kept (done {c = c} e _) h s = at_end_lem (subst (λ (j : ℕ). Kept (stage j) c) e s)
+reads_kept (done {c = c} e _) h s = at_the_end (subst (λ (j : ℕ). Kept (stage j) c) e s)
 reads_kept (wrong _ _) h s = tt
 reads_kept {f} (next {k = k} {a = a} {c = c} w r) h s =
     reads_kept r (number_small (mark_found f a)) (keeps (mark_found f a) f (stage k) c a (in_time (mark_found f a) k h w.follows) w.fields s)

@@ -56,7 +56,7 @@ no_file = of_file []
 
 -- 14: "a case to be written is not what any well_formed file reads as"; 11: the room is shorter than the file
 pub data WriterSays (c : Case) (room : List ℕ) : Own → ℕ → Type 0 where
-  no_file_lem : (Writable c → ⊥) → WriterSays c room unwritable 0
+  no_such_file : (Writable c → ⊥) → WriterSays c room unwritable 0
   room_short : length room < length (bytes_of c) → WriterSays c room lent-room (length (bytes_of c))
 
 pub data WriterRests (c : Case) (room : List ℕ) : Own → Type 0 where

@@ -105,12 +105,12 @@ pub record SystemOver (c : Case) : Type 0 where
 
 -- none of the checks 3 to 9 speaks of a case
 pub record NetsPass (c : Case) : Type 0 where
-  pub no_cycle_lem : PairCycle c → ⊥
-  pub pattern_few_lem : AtMost pattern_most (PatternReaches c)
+  pub acyclic : PairCycle c → ⊥
+  pub few_patterns : AtMost pattern_most (PatternReaches c)
   pub pattern_capped : PatternOver c → ⊥
   pub one_joins : TwoJoin c → ⊥
   pub final_stays : FinalLeft c → ⊥
-  pub product_few_lem : AtMost product_most (ProductReaches c)
+  pub few_products : AtMost product_most (ProductReaches c)
   pub system_capped : SystemOver c → ⊥
 
 -- ---- the table

@@ -97,9 +97,9 @@ pub system_few : (c : Case) → Limits c → length (system_bytes c) ≤ 1959
 unfolding system_bytes
 system_few c l = simp length-append (omega (arith, nt_few c.net, arcs_few c.arcs, pairs_few c.pairs, ob_few c.observable))
 
-pub pattern_few_lem : (c : Case) → Limits c → length (pattern_bytes c) ≤ 492
+pub few_patterns : (c : Case) → Limits c → length (pattern_bytes c) ≤ 492
 unfolding pattern_bytes
-pattern_few_lem c l = simp length-append (omega (arith, pt_few c.pattern, links_few c.links, bounds_few c.pattern.places c.bounds l.pattern))
+few_patterns c l = simp length-append (omega (arith, pt_few c.pattern, links_few c.links, bounds_few c.pattern.places c.bounds l.pattern))
 
 -- the file is the system's records, the pattern's, LG and EN
 pub bytes_parts : (c : Case) → system_bytes c ++ (pattern_bytes c ++ (lg_bytes c.log ++ en_bytes)) ≡ bytes_of c
@@ -109,4 +109,4 @@ bytes_parts c = simp append_assoc
 pub bytes_few : (c : Case) → Limits c → length (bytes_of c) ≤ longest_file
 bytes_few c l =
     subst (λ (x : List ℕ). length x ≤ longest_file) (bytes_parts c)
-    (simp length-append (omega (arith, system_few c l, pattern_few_lem c l, lg_few c.log)))
+    (simp length-append (omega (arith, system_few c l, few_patterns c l, lg_few c.log)))

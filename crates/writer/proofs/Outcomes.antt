@@ -10,7 +10,7 @@ use Rattle.rack.specs.Layout.{ReadsAs}
 use Rattle.rack.specs.Writing.{bytes_of, Writable}
 use Rattle.rack.specs.Outcome.{holding}
 use Rattle.rack.specs.Refusal.{speaks, rests, none, also}
-use Rattle.rack.specs.CaseFileOutcome.{ReaderIs, read, refused, no_file_lem, room_short, some_file, room_long, WriterIs, written}
+use Rattle.rack.specs.CaseFileOutcome.{ReaderIs, read, refused, no_such_file, room_short, some_file, room_long, WriterIs, written}
 use Rattle.rack.specs.declared.Case.{Case}
 use Rattle.rack.specs.declared.Outcome.TheVariants as Reader
 use Rattle.rack.specs.declared.Reading.{Reading}
@@ -55,4 +55,4 @@ answer_short {c} {room} w h e =
     subst (λ (k : ℕ). WriterIs c room (Writer.Refused 11 k) room) (sym e) (refused (rests (some_file w) (speaks (room_short (omega arith)))))
 
 pub answer_unwritable : {c : Case} {room : List ℕ} → (Writable c → ⊥) → WriterIs c room (Writer.Refused 14 0) room
-answer_unwritable n = refused (speaks (no_file_lem n))
+answer_unwritable n = refused (speaks (no_such_file n))

@@ -1,5 +1,5 @@
 -- The run fits its room; the rank of the run is further below the top with each turn.
-use Rattle.std.proofs.Common.{◌≤◌, ◌-◌, ◌≡◌, length, take}
+use Rattle.std.proofs.Common.{◌≤◌, ◌-◌, take}
 use Rattle.explanations.specs.Turns.{rank, top_rank}
 use Rattle.explanations.proofs.all.Given as goal
 

@@ -6,7 +6,7 @@ use Rattle.walks.specs.Says.{Says}
 use Rattle.walks.proofs.Says.{says_yes, says_no, says_not}
 use Rattle.plan.specs.Plan.{planned}
 use Rattle.pattern.specs.Chains.{PairBack}
-use Rattle.pattern.proofs.Chaining.{pair_low, higher_low, lower_low, back_cycle, no_cycle_lem}
+use Rattle.pattern.proofs.Chaining.{pair_low, higher_low, lower_low, back_cycle, acyclic}
 use Rattle.pattern.proofs.cycle.has_cycle.Goals as goal
 
 pub loop-pair-init : goal.loop-pair-init
@@ -51,4 +51,4 @@ loop-pair-preserved c =
     below_more _ _ c.loop-pair.invariant (says_not told c.if-leads_down.false)
 
 pub returns : goal.returns
-returns c = says_no (no_cycle_lem _ (λ j l. c.loop-pair.invariant j (omega (arith, c.pairs-count.ensures))))
+returns c = says_no (acyclic _ (λ j l. c.loop-pair.invariant j (omega (arith, c.pairs-count.ensures))))
