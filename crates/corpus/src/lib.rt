@@ -5,7 +5,7 @@
 
 #![tactic(auto)]
 
-ghost use Rattle.std.specs.Prelude.{◌≡◌, length, replicate, IfOk};
+ghost use Rattle.std.specs.Prelude.{◌≡◌, length, replicate, IfOk, OnErr};
 ghost use Rattle.walks.specs.Says.{Says};
 ghost use Rattle.corpus.specs.Takes.{TakenSays, ReadSays};
 ghost use Rattle.corpus.specs.Rooms.{Still};
@@ -67,7 +67,8 @@ pub fn three<R: Read>(from: &mut R) -> io::Result<usize>
 
 // The next part, with its length in three bytes before it. A part that is longer than the room ends the corpus.
 pub fn part<R: Read>(from: &mut R, room: &mut [u8]) -> io::Result<Taken>
-    ensures { IfOk result (TakenSays (length room.new)) }
+    ensures ok { IfOk result (TakenSays (length room.new)) }
+    ensures err { OnErr result (length room.new ≡ length room.old) }
 {
     let n = three(from)?;
     if room.len() < n {

@@ -4,7 +4,7 @@
 
 #![tactic(auto)]
 
-ghost use Rattle.std.specs.Prelude.{◌≡◌, ◌≤◌, length, IfOk};
+ghost use Rattle.std.specs.Prelude.{◌≡◌, ◌≤◌, length, IfOk, OnErr};
 ghost use Rattle.explanations.specs.Turns.{shown_of, ShownSays, LaterSays};
 
 use arguments::{Spelled, argument};
@@ -65,7 +65,8 @@ fn show_first(
     work: &mut [u8],
 ) -> io::Result<Shown>
     requires { length room.old ≡ 24 }
-    ensures { IfOk result ShownSays }
+    ensures ok { IfOk result ShownSays }
+    ensures err { OnErr result (length room.new ≡ length room.old) }
 {
     let listed = listing::first(file, limit, room, work);
     print(rt, listed, room)
@@ -81,7 +82,8 @@ fn show_next(
     work: &mut [u8],
 ) -> io::Result<Shown>
     requires { (length room.old ≡ 24) × (length given.now ≤ 24) }
-    ensures { IfOk result (λ s. LaterSays given.now s room.new) }
+    ensures ok { IfOk result (λ s. LaterSays given.now s room.new) }
+    ensures err { OnErr result (length room.new ≡ length room.old) }
 {
     let listed = listing::next(file, limit, given, room, work);
     print(rt, listed, room)

@@ -2,14 +2,16 @@
 
 #![tactic(auto)]
 
-ghost use Rattle.std.specs.Prelude.{◌≤◌, length, IfOk};
+ghost use Rattle.std.specs.Prelude.{◌≡◌, ◌≤◌, length, IfOk, OnErr};
 
 use std::io;
 use std::io::Read;
 
-// Reads until the room is full or the reader ends, and answers how many bytes stand at the front of the room then.
+// Reads until the room is full or the reader ends, and answers how many bytes stand at the front of the room then. Where a read fails, what it
+// has read so far stays there.
 pub fn read_full<R: Read>(from: &mut R, room: &mut [u8]) -> io::Result<usize>
-    ensures { IfOk result (λ n. n ≤ length room.new) }
+    ensures ok { IfOk result (λ n. n ≤ length room.new) }
+    ensures err { OnErr result (length room.new ≡ length room.old) }
 {
     let mut done: usize = 0;
     while done < room.len() {

@@ -2,7 +2,7 @@
 
 #![tactic(auto)]
 
-ghost use Rattle.std.specs.Prelude.{◌≡◌, ◌≤◌, take, IfOk};
+ghost use Rattle.std.specs.Prelude.{◌≡◌, ◌≤◌, take, IfOk, OnErr};
 
 use itoa::Buffer;
 use rack::{Net, PatternNet, Replayed, Stop, wide};
@@ -54,7 +54,8 @@ pub fn refused(rt: &impl Print, number_of: u8, beside: usize) -> io::Result<()> 
 // there are then.
 fn push(rt: &impl Print, out: &mut [u8; PIECE], used: usize, byte: u8) -> io::Result<usize>
     requires { used ≤ 256 }
-    ensures { IfOk result (λ r. r ≤ 256) }
+    ensures ok { IfOk result (λ r. r ≤ 256) }
+    ensures err { OnErr result (out.new ≡ out.old) }
 {
     if used == PIECE {
         text(rt, &out[..])?;
