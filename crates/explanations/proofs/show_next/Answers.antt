@@ -5,8 +5,8 @@ use Rattle.explanations.specs.Turns.{shown_of, LaterSays}
 use Rattle.explanations.proofs.TurnLaws.{told_next}
 use Rattle.explanations.proofs.show_next.Goals as goal
 
-pub returns : goal.returns
-returns g c =
+pub returns-clause-ok : goal.returns-clause-ok
+returns-clause-ok g c =
     IfOk-weaker
     c.print.result
     (λ s. s ≡ shown_of c.next-listed.result)
