@@ -10,3 +10,7 @@ with_matching-requires c = record { ready = c.requires.ready; kind_at = at_place
 
 pub returns-in-Nowhere : goal.returns-in-Nowhere
 returns-in-Nowhere c = c.without_matching.ensures c.args.matching.now
+
+-- both runs are those of the call, each in its own room
+pub returns-in-At : goal.returns-in-At
+returns-in-At c = c.with_matching.ensures
