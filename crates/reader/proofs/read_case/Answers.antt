@@ -234,7 +234,7 @@ loop-last-preserved c =
     (right).turn (rw c.in-Absent.is)
 
 pub returns-then-at-file : goal.returns-then-at-file
-returns-then-at-file c = refuses c.refused-then-at-file.ensures (left_over c.loop-last.invariant c.loop-last-test.false c.if-at-file.true)
+returns-then-at-file c = refuses c.refused-then-at-file.ensures (left_over c.loop-last.invariant c.loop-last-test.false (omega (arith, c.if-at-file.true, c.loop-last.invariant.inside)))
 
 pub returns : goal.returns
 returns c = read (all_read c.loop-last.invariant c.loop-last-test.false c.if-at-file.false)
