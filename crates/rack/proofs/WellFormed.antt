@@ -19,8 +19,6 @@ use Rattle.rack.specs.declared.Net.{Net}
 use Rattle.rack.specs.declared.Arcs.{Arcs}
 use Rattle.rack.specs.declared.Pairs.{Pairs}
 use Rattle.rack.specs.declared.Observable.{Observable}
-use Rattle.rack.specs.declared.PatternNet.{PatternNet}
-use Rattle.rack.specs.declared.PatternArcs.{PatternArcs}
 use Rattle.rack.specs.declared.Bounds.{Bounds}
 use Rattle.rack.specs.declared.Log.{Log}
 use Rattle.rack.specs.declared.Case.{Case}
@@ -104,13 +102,13 @@ number_small Absent = omega arith
 
 -- ---- what a reading keeps, at the stage s; a kind that is still to come has left no numbers
 
-pub record SystemKept (s : ℕ) (n : Net) (c : Arcs) (p : Pairs) : Type 0 where
+pub record SystemKept (s : ℕ) (n : Net 16) (c : Arcs 48 768) (p : Pairs) : Type 0 where
   pub net : 1 ≤ s → NetFits 16 n.places n.cap n.first
   pub arcs : ArcsFit 16 48 n.places c.count c.labels c.pre c.post
   pub no_arcs : s ≤ 0 → c.count ≡ 0
   pub pairs : PairsFit c.count p
 
-pub record PatternKept (s : ℕ) (n : PatternNet) (c : PatternArcs) (b : Bounds) : Type 0 where
+pub record PatternKept (s : ℕ) (n : Net 8) (c : Arcs 16 128) (b : Bounds) : Type 0 where
   pub net : 5 ≤ s → NetFits 8 n.places n.cap n.first
   pub links : ArcsFit 8 16 n.places c.count c.labels c.pre c.post
   pub no_links_lem : s ≤ 4 → c.count ≡ 0
@@ -156,10 +154,10 @@ start_kept =
 -- records of another part of the case: the system's facts stay once NT has come; the pattern's stay before PT and after QF; the log's stay
 -- before LG
 module _ {s : ℕ} (s' : ℕ) where
-  system_stays : {n : Net} {c : Arcs} {p : Pairs} → 1 ≤ s → 1 ≤ s' → SystemKept s n c p → SystemKept s' n c p
+  system_stays : {n : Net 16} {c : Arcs 48 768} {p : Pairs} → 1 ≤ s → 1 ≤ s' → SystemKept s n c p → SystemKept s' n c p
   system_stays g h k = record { net = λ _. k.net g; arcs = k.arcs; no_arcs = λ b. absurd (omega arith); pairs = k.pairs }
 
-  pattern_waits : {n : PatternNet} {c : PatternArcs} {b : Bounds} → s ≤ 4 → s' ≤ 4 → PatternKept s n c b → PatternKept s' n c b
+  pattern_waits : {n : Net 8} {c : Arcs 16 128} {b : Bounds} → s ≤ 4 → s' ≤ 4 → PatternKept s n c b → PatternKept s' n c b
   pattern_waits g h k =
       record {
         net = λ b. absurd (omega arith);
@@ -170,7 +168,7 @@ module _ {s : ℕ} (s' : ℕ) where
         bounds-some = λ b. absurd (omega arith);
       }
 
-  pattern_stays : {n : PatternNet} {c : PatternArcs} {b : Bounds} → 7 ≤ s → 7 ≤ s' → PatternKept s n c b → PatternKept s' n c b
+  pattern_stays : {n : Net 8} {c : Arcs 16 128} {b : Bounds} → 7 ≤ s → 7 ≤ s' → PatternKept s n c b → PatternKept s' n c b
   pattern_stays g h k =
       record {
         net = λ _. k.net (omega arith);

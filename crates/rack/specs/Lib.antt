@@ -12,6 +12,7 @@ pub mod Records
 pub mod Layout
 pub mod Writing
 pub mod Refusal
+pub mod Refused
 pub mod NetChecks
 pub mod Outcome
 pub mod CaseFileOutcome

@@ -7,8 +7,6 @@ use Rattle.rack.specs.declared.Net.{Net}
 use Rattle.rack.specs.declared.Arcs.{Arcs}
 use Rattle.rack.specs.declared.Pairs.{Pairs}
 use Rattle.rack.specs.declared.Observable.{Observable}
-use Rattle.rack.specs.declared.PatternNet.{PatternNet}
-use Rattle.rack.specs.declared.PatternArcs.{PatternArcs}
 use Rattle.rack.specs.declared.Bounds.{Bounds}
 use Rattle.rack.specs.declared.Log.{Log}
 
@@ -27,10 +25,10 @@ pub record NetIs (most : ℕ) (f : List ℕ) (a : ℕ) : Type 0 where
 abbrev pub net_end : List ℕ → ℕ → ℕ
 net_end f a = a + 4 + byte f (a + 2)
 
-unfoldable pub nt_says : List ℕ → ℕ → Net
+unfoldable pub nt_says : List ℕ → ℕ → Net 16
 nt_says f a = record { places = byte f (a + 2); cap = byte f (a + 3); first = filled 16 (part f (a + 4) (byte f (a + 2))) }
 
-unfoldable pub pt_says : List ℕ → ℕ → PatternNet
+unfoldable pub pt_says : List ℕ → ℕ → Net 8
 pt_says f a = record { places = byte f (a + 2); cap = byte f (a + 3); first = filled 8 (part f (a + 4) (byte f (a + 2))) }
 
 -- ---- TR | "label 0..31; input count, inputs; output count, outputs" | "0..48"
@@ -47,7 +45,7 @@ pub record ArcsIs (most places count : ℕ) (f : List ℕ) (a : ℕ) : Type 0 wh
 abbrev pub arcs_end : List ℕ → ℕ → ℕ
 arcs_end f a = list_end f (list_end f (a + 3))
 
-unfoldable pub tr_says : Arcs → List ℕ → ℕ → Arcs
+unfoldable pub tr_says : Arcs 48 768 → List ℕ → ℕ → Arcs 48 768
 tr_says c f a =
     record {
       count = c.count + 1;
@@ -56,7 +54,7 @@ tr_says c f a =
       post = marked (c.count * 16) (list_at f (list_end f (a + 3))) c.post;
     }
 
-unfoldable pub px_says : PatternArcs → List ℕ → ℕ → PatternArcs
+unfoldable pub px_says : Arcs 16 128 → List ℕ → ℕ → Arcs 16 128
 px_says c f a =
     record {
       count = c.count + 1;

@@ -8,11 +8,10 @@ use Rattle.rack.specs.declared.Case.{Case}
 use Rattle.rack.specs.declared.Net.{Net}
 use Rattle.rack.specs.declared.Arcs.{Arcs}
 use Rattle.rack.specs.declared.Pairs.{Pairs}
-use Rattle.rack.specs.declared.PatternArcs.{PatternArcs}
 
 -- a system, its priority pairs and a log, beside a pattern whose places 0 and 1 start with 1 and 0 tokens and that is final with 1 in
 -- place 1; labels 0, 1 and 2 are observable
-unfoldable pub telling : Net → Arcs → Pairs → PatternArcs → List ℕ → Case
+unfoldable pub telling : Net 16 → Arcs 48 768 → Pairs → Arcs 16 128 → List ℕ → Case
 telling net arcs pairs links log =
     record {
       net = net;
@@ -28,7 +27,7 @@ telling net arcs pairs links log =
 unfoldable pub no_pairs : Pairs
 no_pairs = record { count = 0; higher = filled 32 []; lower = filled 32 [] }
 
-unfoldable pub no_links : PatternArcs
+unfoldable pub no_links : Arcs 16 128
 no_links = record { count = 0; labels = filled 16 []; pre = filled 128 []; post = filled 128 [] }
 
 -- "Asking whether the higher transition is firable: a chain of pairs then frees the lowest." Three transitions keep the one token where it is;

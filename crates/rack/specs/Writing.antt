@@ -7,8 +7,6 @@ use Rattle.rack.specs.declared.Net.{Net}
 use Rattle.rack.specs.declared.Arcs.{Arcs}
 use Rattle.rack.specs.declared.Pairs.{Pairs}
 use Rattle.rack.specs.declared.Observable.{Observable}
-use Rattle.rack.specs.declared.PatternNet.{PatternNet}
-use Rattle.rack.specs.declared.PatternArcs.{PatternArcs}
 use Rattle.rack.specs.declared.Bounds.{Bounds}
 use Rattle.rack.specs.declared.Log.{Log}
 use Rattle.rack.specs.declared.Case.{Case}
@@ -34,10 +32,10 @@ cell row base p = get_or row (base + p) 0
 abbrev pub row_bytes : List ℕ → ℕ → ℕ → List ℕ
 row_bytes row base w = counted (listed 0 w (cell row base))
 
-unfoldable pub nt_bytes : Net → List ℕ
+unfoldable pub nt_bytes : Net 16 → List ℕ
 nt_bytes c = 78 ∷ 84 ∷ c.places ∷ c.cap ∷ take c.places c.first
 
-unfoldable pub tr_bytes : Arcs → ℕ → List ℕ
+unfoldable pub tr_bytes : Arcs 48 768 → ℕ → List ℕ
 tr_bytes c t = 84 ∷ 82 ∷ get_or c.labels t 0 ∷ row_bytes c.pre (t * 16) 16 ++ row_bytes c.post (t * 16) 16
 
 unfoldable pub pr_bytes : Pairs → ℕ → List ℕ
@@ -46,10 +44,10 @@ pr_bytes c k = 80 ∷ 82 ∷ get_or c.higher k 0 ∷ get_or c.lower k 0 ∷ []
 unfoldable pub ob_bytes : Observable → List ℕ
 ob_bytes c = 79 ∷ 66 ∷ row_bytes c.flags 0 32
 
-unfoldable pub pt_bytes : PatternNet → List ℕ
+unfoldable pub pt_bytes : Net 8 → List ℕ
 pt_bytes c = 80 ∷ 84 ∷ c.places ∷ c.cap ∷ take c.places c.first
 
-unfoldable pub px_bytes : PatternArcs → ℕ → List ℕ
+unfoldable pub px_bytes : Arcs 16 128 → ℕ → List ℕ
 px_bytes c k = 80 ∷ 88 ∷ get_or c.labels k 0 ∷ row_bytes c.pre (k * 8) 8 ++ row_bytes c.post (k * 8) 8
 
 -- least and most of one pattern place

@@ -1,39 +1,11 @@
 // The rack: the case in memory and the answers of every call. What each of them means stands in specs/, beside the sentences of
-// document 01. A case keeps one struct for each kind of record; slots that a case does not use hold zeros. The only function here is
-// `wide`, which crates above need to index with a byte of a case.
+// document 01. A case keeps one struct for each kind of record; slots that a case does not use hold zeros. The only functions here
+// give a refusal's two numbers.
 
 #![tactic(auto)]
 
-ghost use Rattle.std.specs.Prelude.{◌≡◌, ◌<◌};
-
-// The refusal numbers, as `number` in specs/Refusal.antt has them.
-pub const REFUSED_WORK_ROOM: u8 = 1;
-
-pub const REFUSED_LAYOUT: u8 = 2;
-
-pub const REFUSED_CYCLE: u8 = 3;
-
-pub const REFUSED_PATTERN_COUNT: u8 = 4;
-
-pub const REFUSED_PATTERN_CAP: u8 = 5;
-
-pub const REFUSED_TWO_JOIN: u8 = 6;
-
-pub const REFUSED_FINAL_LEFT: u8 = 7;
-
-pub const REFUSED_PRODUCT_COUNT: u8 = 8;
-
-pub const REFUSED_SYSTEM_CAP: u8 = 9;
-
-pub const REFUSED_UNEXPLAINED: u8 = 10;
-
-pub const REFUSED_LENT_ROOM: u8 = 11;
-
-pub const REFUSED_LIMIT: u8 = 12;
-
-pub const REFUSED_GIVEN_RUN: u8 = 13;
-
-pub const REFUSED_UNWRITABLE: u8 = 14;
+ghost use Rattle.std.specs.Prelude.{◌≡◌};
+ghost use Rattle.rack.specs.Refused.{number_of, beside_of};
 
 // How long the work room of the verdict and of the listing must be: `work_room` in specs/Refusal.antt.
 pub const WORK_ROOM: usize = 51200;
@@ -49,26 +21,27 @@ pub const LIMIT_MOST: usize = 24;
 // "The longest file has 2,496 bytes.": `longest_file` in specs/CaseFileOutcome.antt.
 pub const LONGEST_FILE: usize = 2496;
 
-// NT: how many places the system has, its cap, and each place's first tokens.
-#[derive(Clone, Copy)]
-pub struct Net {
+// NT and PT: how many places a net has, its cap, and each place's first tokens. The system has at most 16 places and the pattern 8.
+#[derive(Clone, Copy, Debug, PartialEq, Eq)]
+pub struct Net<const PLACES: usize> {
     pub places: u8,
     pub cap: u8,
-    pub first: [u8; 16],
+    pub first: [u8; PLACES],
 }
 
-// TR: the system's transitions. Row t of pre and of post is 16 bytes wide, 1 where an arc stands and else 0: pre[t * 16 + p]
-// says whether place p is an input of transition t, post[t * 16 + p] whether it is an output.
-#[derive(Clone, Copy)]
-pub struct Arcs {
+// TR and PX: the transitions of a net. Row t of pre and of post is as wide as the net may have places, w, and holds 1 where an arc stands
+// and else 0: pre[t * w + p] says whether place p is an input of transition t, post[t * w + p] whether it is an output. The system has at
+// most 48 transitions in 768 cells, rows 16 wide; the pattern 16 in 128, rows 8 wide.
+#[derive(Clone, Copy, Debug, PartialEq, Eq)]
+pub struct Arcs<const TRANSITIONS: usize, const CELLS: usize> {
     pub count: u8,
-    pub labels: [u8; 48],
-    pub pre: [u8; 768],
-    pub post: [u8; 768],
+    pub labels: [u8; TRANSITIONS],
+    pub pre: [u8; CELLS],
+    pub post: [u8; CELLS],
 }
 
 // PR: the priority pairs; pair k says that transition higher[k] is above transition lower[k].
-#[derive(Clone, Copy)]
+#[derive(Clone, Copy, Debug, PartialEq, Eq)]
 pub struct Pairs {
     pub count: u8,
     pub higher: [u8; 32],
@@ -76,30 +49,13 @@ pub struct Pairs {
 }
 
 // OB: flags[e] is 1 where label e is observable, else 0.
-#[derive(Clone, Copy)]
+#[derive(Clone, Copy, Debug, PartialEq, Eq)]
 pub struct Observable {
     pub flags: [u8; 32],
 }
 
-// PT: as NT, for the pattern.
-#[derive(Clone, Copy)]
-pub struct PatternNet {
-    pub places: u8,
-    pub cap: u8,
-    pub first: [u8; 8],
-}
-
-// PX: as TR, for the pattern, in rows that are 8 bytes wide.
-#[derive(Clone, Copy)]
-pub struct PatternArcs {
-    pub count: u8,
-    pub labels: [u8; 16],
-    pub pre: [u8; 128],
-    pub post: [u8; 128],
-}
-
 // QF: bounds g ask of pattern place p that it holds from least[g * 8 + p] up to most[g * 8 + p] tokens.
-#[derive(Clone, Copy)]
+#[derive(Clone, Copy, Debug, PartialEq, Eq)]
 pub struct Bounds {
     pub count: u8,
     pub least: [u8; 64],
@@ -107,34 +63,34 @@ pub struct Bounds {
 }
 
 // LG: the labels of the log.
-#[derive(Clone, Copy)]
+#[derive(Clone, Copy, Debug, PartialEq, Eq)]
 pub struct Log {
     pub count: u8,
     pub labels: [u8; 40],
 }
 
 // A case. The system is net and arcs; the pattern is pattern (its places) and links (its arcs).
-#[derive(Clone, Copy)]
+#[derive(Clone, Copy, Debug, PartialEq, Eq)]
 pub struct Case {
-    pub net: Net,
-    pub arcs: Arcs,
+    pub net: Net<16>,
+    pub arcs: Arcs<48, 768>,
     pub pairs: Pairs,
     pub observable: Observable,
-    pub pattern: PatternNet,
-    pub links: PatternArcs,
+    pub pattern: Net<8>,
+    pub links: Arcs<16, 128>,
     pub bounds: Bounds,
     pub log: Log,
 }
 
 // The number of a transition of the system, and the number of one of the pattern. Each net counts its own from zero.
-#[derive(Clone, Copy)]
+#[derive(Clone, Copy, Debug, PartialEq, Eq)]
 pub struct SystemTransition(pub usize);
 
-#[derive(Clone, Copy)]
+#[derive(Clone, Copy, Debug, PartialEq, Eq)]
 pub struct PatternTransition(pub usize);
 
 // The kind of a record, by its mark. Absent: no mark stands there.
-#[derive(Clone, Copy)]
+#[derive(Clone, Copy, Debug, PartialEq, Eq)]
 pub enum Mark {
     Nt,
     Tr,
@@ -148,29 +104,83 @@ pub enum Mark {
     Absent,
 }
 
+// The checks, each with what stands beside its number where that is not 0: the place of the first wrong record, the length that is needed.
+#[derive(Clone, Copy, Debug, PartialEq, Eq)]
+pub enum Refusal {
+    WorkRoom,
+    Layout(usize),
+    Cycle,
+    PatternCount,
+    PatternCap,
+    TwoJoin,
+    FinalLeft,
+    ProductCount,
+    SystemCap,
+    Unexplained,
+    LentRoom(usize),
+    Limit,
+    GivenRun,
+    Unwritable,
+}
+
+impl Refusal {
+    // Its number.
+    pub fn number(self) -> u8
+        ensures { result ≡ number_of self }
+    {
+        match self {
+            Refusal::WorkRoom => 1,
+            Refusal::Layout(_) => 2,
+            Refusal::Cycle => 3,
+            Refusal::PatternCount => 4,
+            Refusal::PatternCap => 5,
+            Refusal::TwoJoin => 6,
+            Refusal::FinalLeft => 7,
+            Refusal::ProductCount => 8,
+            Refusal::SystemCap => 9,
+            Refusal::Unexplained => 10,
+            Refusal::LentRoom(_) => 11,
+            Refusal::Limit => 12,
+            Refusal::GivenRun => 13,
+            Refusal::Unwritable => 14,
+        }
+    }
+
+    // The number beside it.
+    pub fn beside(self) -> usize
+        ensures { result ≡ beside_of self }
+    {
+        match self {
+            Refusal::Layout(place) => place,
+            Refusal::LentRoom(needed) => needed,
+            _ => 0,
+        }
+    }
+}
+
 // Reader: the file reads as the case, or is refused. A refusal carries its number and the number beside it, here as in every
 // other answer.
-#[derive(Clone, Copy)]
+#[derive(Clone, Copy, Debug, PartialEq, Eq)]
 pub enum Outcome {
     Whole,
     Refused(u8, usize),
 }
 
-#[derive(Clone, Copy)]
+#[derive(Clone, Copy, Debug, PartialEq, Eq)]
 pub struct Reading {
     pub outcome: Outcome,
     pub case: Case,
 }
 
 // Writer: how many bytes were written, or the refusal.
-#[derive(Clone, Copy)]
+#[derive(Clone, Copy, Debug, PartialEq, Eq)]
 pub enum Written {
     Bytes(usize),
     Refused(u8, usize),
 }
 
 // Verdict: its kind, and how long the shown runs are.
-#[derive(Clone, Copy)]
+#[derive(Clone, Copy, Debug, PartialEq, Eq)]
 pub enum Verdict {
     Faulty,
     Safe,
@@ -178,7 +188,7 @@ pub enum Verdict {
     Refused(u8, usize),
 }
 
-#[derive(Clone, Copy)]
+#[derive(Clone, Copy, Debug, PartialEq, Eq)]
 pub struct Judged {
     pub verdict: Verdict,
     pub matching: usize,
@@ -186,7 +196,7 @@ pub struct Judged {
 }
 
 // Listing: an explanation that matches or one that does not, with its length; the end; or the refusal.
-#[derive(Clone, Copy)]
+#[derive(Clone, Copy, Debug, PartialEq, Eq)]
 pub enum Listed {
     Matching(usize),
     Other(usize),
@@ -195,7 +205,7 @@ pub enum Listed {
 }
 
 // Replay: why it stopped.
-#[derive(Clone, Copy)]
+#[derive(Clone, Copy, Debug, PartialEq, Eq)]
 pub enum Stop {
     RunEnded,
     BudgetSpent,
@@ -206,7 +216,7 @@ pub enum Stop {
 
 // Replay: how many firings were made, the tokens of the system's and of the pattern's places after them, whether that is final (what was fired matches), why it
 // stopped, and whether the run explains the log.
-#[derive(Clone, Copy)]
+#[derive(Clone, Copy, Debug, PartialEq, Eq)]
 pub struct Replayed {
     pub fired: usize,
     pub system: [u8; 16],
@@ -214,11 +224,4 @@ pub struct Replayed {
     pub matches: bool,
     pub stop: Stop,
     pub explains: bool,
-}
-
-// The byte x as a count or an index.
-pub fn wide(x: u8) -> usize
-    ensures { (result ≡ x) × (result < 256) }
-{
-    x as usize
 }

@@ -14,8 +14,6 @@ use Rattle.rack.specs.declared.Net.{Net}
 use Rattle.rack.specs.declared.Arcs.{Arcs}
 use Rattle.rack.specs.declared.Pairs.{Pairs}
 use Rattle.rack.specs.declared.Observable.{Observable}
-use Rattle.rack.specs.declared.PatternNet.{PatternNet}
-use Rattle.rack.specs.declared.PatternArcs.{PatternArcs}
 use Rattle.rack.specs.declared.Bounds.{Bounds}
 use Rattle.rack.specs.declared.Log.{Log}
 use Rattle.rack.specs.declared.Case.{Case}
@@ -45,11 +43,11 @@ rows_few pre post base w = omega (arith, length-append (row_bytes pre base w) (r
 
 -- ---- a record of each kind
 
-pub nt_few : (c : Net) → length (nt_bytes c) ≤ 4 + c.places
+pub nt_few : (c : Net 16) → length (nt_bytes c) ≤ 4 + c.places
 unfolding nt_bytes
 nt_few c = omega (arith, take_few c.places c.first)
 
-pub tr_few : (c : Arcs) (t : ℕ) → length (tr_bytes c t) ≤ 37
+pub tr_few : (c : Arcs 48 768) (t : ℕ) → length (tr_bytes c t) ≤ 37
 unfolding tr_bytes
 tr_few c t = omega (arith, rows_few c.pre c.post (t * 16) 16)
 
@@ -61,11 +59,11 @@ pub ob_few : (c : Observable) → length (ob_bytes c) ≤ 35
 unfolding ob_bytes
 ob_few c = omega (arith, listed_few 0 32 (cell c.flags 0))
 
-pub pt_few : (c : PatternNet) → length (pt_bytes c) ≤ 4 + c.places
+pub pt_few : (c : Net 8) → length (pt_bytes c) ≤ 4 + c.places
 unfolding pt_bytes
 pt_few c = omega (arith, take_few c.places c.first)
 
-pub px_few : (c : PatternArcs) (k : ℕ) → length (px_bytes c k) ≤ 21
+pub px_few : (c : Arcs 16 128) (k : ℕ) → length (px_bytes c k) ≤ 21
 unfolding px_bytes
 px_few c k = omega (arith, rows_few c.pre c.post (k * 8) 8)
 
@@ -79,13 +77,13 @@ lg_few c = omega (arith, take_few c.count c.labels)
 
 -- ---- the kinds of which there may be several
 
-pub arcs_few : (c : Arcs) → length (up_to c.count (tr_bytes c)) ≤ c.count * 37
+pub arcs_few : (c : Arcs 48 768) → length (up_to c.count (tr_bytes c)) ≤ c.count * 37
 arcs_few c = up_to_few 37 c.count (tr_bytes c) (tr_few c)
 
 pub pairs_few : (c : Pairs) → length (up_to c.count (pr_bytes c)) ≤ c.count * 4
 pairs_few c = up_to_few 4 c.count (pr_bytes c) (pr_few c)
 
-pub links_few : (c : PatternArcs) → length (up_to c.count (px_bytes c)) ≤ c.count * 21
+pub links_few : (c : Arcs 16 128) → length (up_to c.count (px_bytes c)) ≤ c.count * 21
 links_few c = up_to_few 21 c.count (px_bytes c) (px_few c)
 
 pub bounds_few : (places : ℕ) (c : Bounds) → places ≤ 8 → length (up_to c.count (qf_bytes places c)) ≤ c.count * 18

@@ -5,22 +5,20 @@ use Rattle.rack.specs.declared.Net.{Net}
 use Rattle.rack.specs.declared.Arcs.{Arcs}
 use Rattle.rack.specs.declared.Pairs.{Pairs}
 use Rattle.rack.specs.declared.Observable.{Observable}
-use Rattle.rack.specs.declared.PatternNet.{PatternNet}
-use Rattle.rack.specs.declared.PatternArcs.{PatternArcs}
 use Rattle.rack.specs.declared.Bounds.{Bounds}
 use Rattle.rack.specs.declared.Log.{Log}
 use Rattle.rack.specs.declared.Case.{Case}
 
-pub eq_net : {a b : Net} → a.places ≡ b.places → a.cap ≡ b.cap → a.first ≡ b.first → a ≡ b
+pub eq_net : {a b : Net 16} → a.places ≡ b.places → a.cap ≡ b.cap → a.first ≡ b.first → a ≡ b
 eq_net p c f = λ i. record { places = p i; cap = c i; first = f i }
 
-pub eq_pattern : {a b : PatternNet} → a.places ≡ b.places → a.cap ≡ b.cap → a.first ≡ b.first → a ≡ b
+pub eq_pattern : {a b : Net 8} → a.places ≡ b.places → a.cap ≡ b.cap → a.first ≡ b.first → a ≡ b
 eq_pattern p c f = λ i. record { places = p i; cap = c i; first = f i }
 
-pub eq_arcs : {a b : Arcs} → a.count ≡ b.count → a.labels ≡ b.labels → a.pre ≡ b.pre → a.post ≡ b.post → a ≡ b
+pub eq_arcs : {a b : Arcs 48 768} → a.count ≡ b.count → a.labels ≡ b.labels → a.pre ≡ b.pre → a.post ≡ b.post → a ≡ b
 eq_arcs n l p q = λ i. record { count = n i; labels = l i; pre = p i; post = q i }
 
-pub eq_links : {a b : PatternArcs} → a.count ≡ b.count → a.labels ≡ b.labels → a.pre ≡ b.pre → a.post ≡ b.post → a ≡ b
+pub eq_links : {a b : Arcs 16 128} → a.count ≡ b.count → a.labels ≡ b.labels → a.pre ≡ b.pre → a.post ≡ b.post → a ≡ b
 eq_links n l p q = λ i. record { count = n i; labels = l i; pre = p i; post = q i }
 
 pub eq_pairs : {a b : Pairs} → a.count ≡ b.count → a.higher ≡ b.higher → a.lower ≡ b.lower → a ≡ b

@@ -7,9 +7,9 @@ use Rattle.writer.proofs.Structs.{eq_arcs}
 use Rattle.writer.proofs.compare.same_arcs.Goals as goal
 
 pub returns-then-not-same : goal.returns-then-not-same
-returns-then-not-same c = part_fails c.same.ensures c.if-not-same.true (λ e. ap (λ (x : Arcs). x.post) e)
+returns-then-not-same c = part_fails c.same.ensures c.if-not-same.true (λ e. ap (λ (x : Arcs 48 768). x.post) e)
 
 pub returns : goal.returns
 returns c =
     let p = part_holds c.same.ensures c.if-not-same.false in
-    says_same c.same_lists.ensures (λ e. eq_arcs e.0 e.1 e.2 p) (λ e. (ap (λ (x : Arcs). x.count) e, ap (λ (x : Arcs). x.labels) e, ap (λ (x : Arcs). x.pre) e))
+    says_same c.same_lists.ensures (λ e. eq_arcs e.0 e.1 e.2 p) (λ e. (ap (λ (x : Arcs 48 768). x.count) e, ap (λ (x : Arcs 48 768). x.labels) e, ap (λ (x : Arcs 48 768). x.pre) e))

@@ -6,7 +6,7 @@ use Rattle.writer.proofs.Structs.{eq_net}
 use Rattle.writer.proofs.compare.same_net.Goals as goal
 
 pub returns-then-a-b : goal.returns-then-a-b
-returns-then-a-b c = says_no (λ e. c.if-a-b.true (ap (λ (x : Net). x.cap) e))
+returns-then-a-b c = says_no (λ e. c.if-a-b.true (ap (λ (x : Net 16). x.cap) e))
 
 pub returns : goal.returns
-returns c = says_same c.same_list.ensures (λ e. eq_net e.0 c.if-a-b.false e.1) (λ e. (ap (λ (x : Net). x.places) e, ap (λ (x : Net). x.first) e))
+returns c = says_same c.same_list.ensures (λ e. eq_net e.0 c.if-a-b.false e.1) (λ e. (ap (λ (x : Net 16). x.places) e, ap (λ (x : Net 16). x.first) e))
