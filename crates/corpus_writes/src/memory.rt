@@ -21,7 +21,7 @@ fn byte(from: &mut impl Read) -> io::Result<u8> {
     Ok(bytes[0])
 }
 
-fn net(from: &mut impl Read) -> io::Result<Net> {
+fn net(from: &mut impl Read) -> io::Result<Net<16>> {
     let places = byte(from)?;
     let cap = byte(from)?;
     let mut first = [0u8; 16];
@@ -33,7 +33,7 @@ fn net(from: &mut impl Read) -> io::Result<Net> {
     })
 }
 
-fn arcs(from: &mut impl Read) -> io::Result<Arcs> {
+fn arcs(from: &mut impl Read) -> io::Result<Arcs<48, 768>> {
     let count = byte(from)?;
     let mut labels = [0u8; 48];
     let mut pre = [0u8; 768];
@@ -73,7 +73,7 @@ fn pattern(from: &mut impl Read) -> io::Result<PatternNet> {
     let cap = byte(from)?;
     let mut first = [0u8; 8];
     read_full(from, &mut first)?;
-    Ok(PatternNet {
+    Ok(Net {
         places: places,
         cap: cap,
         first: first,
@@ -88,7 +88,7 @@ fn links(from: &mut impl Read) -> io::Result<PatternArcs> {
     read_full(from, &mut labels)?;
     read_full(from, &mut pre)?;
     read_full(from, &mut post)?;
-    Ok(PatternArcs {
+    Ok(Arcs {
         count: count,
         labels: labels,
         pre: pre,

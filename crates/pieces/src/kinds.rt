@@ -25,7 +25,7 @@ fn push_net(room: &mut [u8], at: usize, x: u8, y: u8, places: u8, cap: u8, first
 }
 
 // Puts NT.
-pub fn push_nt(room: &mut [u8], at: usize, net: Net) -> usize
+pub fn push_nt(room: &mut [u8], at: usize, net: Net<16>) -> usize
     requires { (at + 20 ≤ length room.old) × (net.places ≤ 16) }
     ensures { Puts room.old at room.new result (nt_bytes net) }
 {
@@ -89,7 +89,7 @@ fn push_arcs(
 }
 
 // Puts the TR records.
-pub fn push_tr(room: &mut [u8], at: usize, arcs: Arcs) -> usize
+pub fn push_tr(room: &mut [u8], at: usize, arcs: Arcs<48, 768>) -> usize
     requires { (at + 1776 ≤ length room.old) × (arcs.count ≤ 48) }
     ensures { Puts room.old at room.new result (up_to arcs.count (tr_bytes arcs)) }
 {

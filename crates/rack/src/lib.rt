@@ -4,8 +4,37 @@
 
 #![tactic(auto)]
 
-ghost use Rattle.std.specs.Prelude.{◌≡◌};
+ghost use Rattle.std.specs.Prelude.{◌≡◌, ◌<◌};
 ghost use Rattle.rack.specs.Refused.{number_of, beside_of};
+
+// The refusal numbers, as `number` in specs/Refusal.antt has them.
+pub const REFUSED_WORK_ROOM: u8 = 1;
+
+pub const REFUSED_LAYOUT: u8 = 2;
+
+pub const REFUSED_CYCLE: u8 = 3;
+
+pub const REFUSED_PATTERN_COUNT: u8 = 4;
+
+pub const REFUSED_PATTERN_CAP: u8 = 5;
+
+pub const REFUSED_TWO_JOIN: u8 = 6;
+
+pub const REFUSED_FINAL_LEFT: u8 = 7;
+
+pub const REFUSED_PRODUCT_COUNT: u8 = 8;
+
+pub const REFUSED_SYSTEM_CAP: u8 = 9;
+
+pub const REFUSED_UNEXPLAINED: u8 = 10;
+
+pub const REFUSED_LENT_ROOM: u8 = 11;
+
+pub const REFUSED_LIMIT: u8 = 12;
+
+pub const REFUSED_GIVEN_RUN: u8 = 13;
+
+pub const REFUSED_UNWRITABLE: u8 = 14;
 
 // How long the work room of the verdict and of the listing must be: `work_room` in specs/Refusal.antt.
 pub const WORK_ROOM: usize = 51200;
@@ -68,6 +97,11 @@ pub struct Log {
     pub count: u8,
     pub labels: [u8; 40],
 }
+
+// Both for the pattern. TODO: goes when no crate names it.
+pub type PatternNet = Net<8>;
+
+pub type PatternArcs = Arcs<16, 128>;
 
 // A case. The system is net and arcs; the pattern is pattern (its places) and links (its arcs).
 #[derive(Clone, Copy, Debug, PartialEq, Eq)]
@@ -224,4 +258,11 @@ pub struct Replayed {
     pub matches: bool,
     pub stop: Stop,
     pub explains: bool,
+}
+
+// The byte x as a count or an index.
+pub fn wide(x: u8) -> usize
+    ensures { (result ≡ x) × (result < 256) }
+{
+    x as usize
 }

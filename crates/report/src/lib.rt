@@ -132,7 +132,7 @@ fn either<'a>(rt: &impl Print, first_one: bool, one: &'a [u8], other: &'a [u8]) 
 }
 
 // The marking that a replay reached, with a count for each place: the tokens of the system, then those of the pattern.
-fn marking(rt: &impl Print, done: Replayed, net: Net, pattern_net: PatternNet) -> io::Result<()> {
+fn marking(rt: &impl Print, done: Replayed, net: Net<16>, pattern_net: PatternNet) -> io::Result<()> {
     let system = done.system;
     let pattern = done.pattern;
     tokens(rt, first(&system, wide(net.places)))?;
@@ -156,7 +156,7 @@ fn reason(rt: &impl Print, stop: Stop) -> io::Result<()> {
 fn made<'a>(
     rt: &impl Print,
     done: Replayed,
-    net: Net,
+    net: Net<16>,
     pattern_net: PatternNet,
     before_marking: &'a [u8],
     between: &'a [u8],
@@ -180,7 +180,7 @@ fn made<'a>(
 pub fn replayed<'a>(
     rt: &impl Print,
     done: Replayed,
-    net: Net,
+    net: Net<16>,
     pattern_net: PatternNet,
     before_marking: &'a [u8],
     between: &'a [u8],

@@ -14,7 +14,7 @@ use rack::{Arcs, Bounds, Case, Log, Net, Observable, Pairs, PatternArcs, Pattern
 use stores::{copy, mark_list, put_bounds};
 
 // NT: the system's places, cap and first tokens.
-pub fn add_nt(file: &[u8], at: usize) -> Net
+pub fn add_nt(file: &[u8], at: usize) -> Net<16>
     requires { NetIs 16 file.now at }
     ensures { result ≡ nt_says file.now at }
 {
@@ -36,7 +36,7 @@ pub fn add_pt(file: &[u8], at: usize) -> PatternNet
     let places = file[at + 2];
     let mut first = [0u8; 8];
     copy(&mut first, file, at + 4, wide(places));
-    PatternNet {
+    Net {
         places: places,
         cap: file[at + 3],
         first: first,
@@ -60,7 +60,7 @@ fn mark_pattern(rows: &mut [u8; 128], row: usize, file: &[u8], at: usize) -> usi
 }
 
 // TR: one more transition of the system.
-pub fn add_tr(mut arcs: Arcs, file: &[u8], at: usize) -> Arcs
+pub fn add_tr(mut arcs: Arcs<48, 768>, file: &[u8], at: usize) -> Arcs<48, 768>
     requires { ArcsIs 48 16 arcs.count file.now at }
     ensures { result ≡ tr_says arcs file.now at }
 {
@@ -157,12 +157,12 @@ pub fn zero_case() -> Case
             lower: [0u8; 32],
         },
         observable: Observable { flags: [0u8; 32] },
-        pattern: PatternNet {
+        pattern: Net {
             places: 0,
             cap: 0,
             first: [0u8; 8],
         },
-        links: PatternArcs {
+        links: Arcs {
             count: 0,
             labels: [0u8; 16],
             pre: [0u8; 128],

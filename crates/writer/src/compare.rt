@@ -42,7 +42,7 @@ fn same_lists(m: u8, n: u8, a: &[u8], b: &[u8], c: &[u8], d: &[u8]) -> bool
 }
 
 // NT is the same.
-fn same_net(a: Net, b: Net) -> bool
+fn same_net(a: Net<16>, b: Net<16>) -> bool
     ensures { Says result (a ≡ b) }
 {
     let x = a.first;
@@ -66,7 +66,7 @@ fn same_pattern(a: PatternNet, b: PatternNet) -> bool
 }
 
 // The TR records are the same.
-fn same_arcs(a: Arcs, b: Arcs) -> bool
+fn same_arcs(a: Arcs<48, 768>, b: Arcs<48, 768>) -> bool
     ensures { Says result (a ≡ b) }
 {
     let a_labels = a.labels;
