@@ -15,8 +15,8 @@ use Rattle.rack.specs.declared.Mark.TheVariants.{Nt, Tr, Pr, Ob, Pt, Px, Qf, Lg,
 use Rattle.rack.proofs.OneReading.{mark_whole, ended}
 use Rattle.records.specs.Answer.{Answers}
 use Rattle.reader.specs.RowsFit.{RowsFit}
-use Rattle.records.specs.declared.Read.{Read}
-use Rattle.records.specs.declared.Read.TheVariants.{Good, Bad}
+use Rattle.records.specs.declared.Misplaced.{Misplaced}
+use Rattle.std.proofs.Common.{Result, Ok, Err}
 use Rattle.records.proofs.Answered.{good, bad}
 
 -- a right record ends after its mark, within the file
@@ -90,15 +90,15 @@ module _ {f : List ℕ} {k a : ℕ} {c : Case} (s : SoFar f k c a) where
     pub wrong_mark : b ≡ false → (k ≡ 8 → ⊥) → BreaksAt f a
     wrong_mark t n = record { reads = s.rest (broken a) (wrong (λ w. true≢false (sym w.follows ∙ sym as_table ∙ t)) (λ e _. n e)) }
 
-    module _ {r : Read} (ans : Answers (FieldsAre m c f a) (end_at m c f a) a r) where
+    module _ {r : Result ℕ Misplaced} (ans : Answers (FieldsAre m c f a) (end_at m c f a) a r) where
       -- a record that is not right
-      pub wrong_fields : {q : ℕ} → r ≡ Bad q → (k ≡ 8 → ⊥) → BreaksAt f q
+      pub wrong_fields : {q : Misplaced} → r ≡ Err q → (k ≡ 8 → ⊥) → BreaksAt f q.place
       wrong_fields {q} e n =
           let g = bad ans e in
           subst (BreaksAt f) (sym g.1)
           (record { reads = s.rest (broken a) (wrong (λ w. g.0 (subst (λ (m : Mark). FieldsAre m c f a) (sym em) w.fields)) (λ e _. n e)) })
 
-      pub right_record : {n : ℕ} → b ≡ true → r ≡ Good n → i < 10 → Right f c a m i n
+      pub right_record : {n : ℕ} → b ≡ true → r ≡ Ok n → i < 10 → Right f c a m i n
       right_record {n} t er small =
           let g = good ans er in
           let p = past m c f a (long t) g.0 in

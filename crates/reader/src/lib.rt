@@ -9,7 +9,7 @@ ghost use Rattle.rack.specs.CaseFileOutcome.{ReaderIs, LogIs};
 ghost use Rattle.reader.specs.Answer.{refusal};
 
 use rack::{Mark, Outcome, REFUSED_LAYOUT, Reading, wide};
-use records::{EN, NO_MARK, Read, mark_at, may_follow, number_of, read_record};
+use records::{EN, Misplaced, NO_MARK, mark_at, may_follow, number_of, read_record};
 use slots::{add_lg, add_nt, add_ob, add_pr, add_pt, add_px, add_qf, add_tr, zero_case};
 
 // Refusal 2 at a place, with the case of all zeros.
@@ -37,10 +37,8 @@ pub fn read_case(file: &[u8]) -> Reading
             return refused(at);
         }
         let end = match read_record(file, at, mark, case) {
-            Read::Good(end) => end,
-            Read::Bad(place) => {
-                return refused(place);
-            }
+            Ok(end) => end,
+            Err(Misplaced { place }) => return refused(place),
         };
         match mark {
             Mark::Nt => case.net = add_nt(file, at),

@@ -1,13 +1,12 @@
 -- What the reader of one record answers.
 -- Assumes nothing.
-use Rattle.std.specs.Prelude.{ℕ, ◌≡◌}
-use Rattle.records.specs.declared.Read.{Read}
-use Rattle.records.specs.declared.Read.TheVariants.{Good, Bad}
+use Rattle.std.specs.Prelude.{ℕ, ◌≡◌, Result, Ok, Err}
+use Rattle.records.specs.declared.Misplaced.{Misplaced}
 
 -- P: the record is right; end: the offset after it; place: the offset of its mark
-abbrev pub AnswerSays : Type 0 → ℕ → ℕ → Read → Type 0
-AnswerSays P end place (Good n) = P × (n ≡ end)
-AnswerSays P end place (Bad n) = (P → ⊥) × (n ≡ place)
+abbrev pub AnswerSays : Type 0 → ℕ → ℕ → Result ℕ Misplaced → Type 0
+AnswerSays P end place (Ok n) = P × (n ≡ end)
+AnswerSays P end place (Err e) = (P → ⊥) × (e.place ≡ place)
 
-pub record Answers (P : Type 0) (end place : ℕ) (r : Read) : Type 0 where
+pub record Answers (P : Type 0) (end place : ℕ) (r : Result ℕ Misplaced) : Type 0 where
   pub says : AnswerSays P end place r

@@ -6,143 +6,95 @@ ghost use Rattle.rack.specs.Records.{NetIs, net_end, ArcsIs, arcs_end, PrIs, pr_
 ghost use Rattle.rack.specs.Layout.{FieldsAre, end_at};
 ghost use Rattle.records.specs.Answer.{Answers};
 
-use crate::Read;
+use crate::Misplaced;
 use crate::stretch::{all_bounded, all_observed, all_within, read_list};
-use rack::{Case, Mark, Pairs, wide};
+use rack::{Case, Mark, Pairs};
 
 // NT and PT: a net of at most `most` places.
-fn read_net(file: &[u8], at: usize, most: u8) -> Read
+fn read_net(file: &[u8], at: usize, most: u8) -> Result<usize, Misplaced>
     requires { at ≤ length file.now }
     ensures { Answers (NetIs most file.now at) (net_end file.now at) at result }
 {
-    if file.len() - at < 4 {
-        return Read::Bad(at);
+    let refusal = Misplaced { place: at };
+    let [_, _, places, cap, ..] = &file[at..] else {
+        return Err(refusal);
+    };
+    if !(1..=most).contains(places) || !(1..=15).contains(cap) {
+        return Err(refusal);
     }
-    let places = file[at + 2];
-    let cap = file[at + 3];
-    if places < 1 {
-        return Read::Bad(at);
+    let first = file[at + 4..].get(..usize::from(*places)).ok_or(refusal)?;
+    if all_within(first, *cap) {
+        Ok(at + 4 + first.len())
+    } else {
+        Err(refusal)
     }
-    if most < places {
-        return Read::Bad(at);
-    }
-    if cap < 1 {
-        return Read::Bad(at);
-    }
-    if 15 < cap {
-        return Read::Bad(at);
-    }
-    let first = at + 4;
-    let count = wide(places);
-    if file.len() - first < count {
-        return Read::Bad(at);
-    }
-    if all_within(file, first, count, cap) {
-        return Read::Good(first + count);
-    }
-    Read::Bad(at)
 }
 
 // TR and PX: a transition of a net that has `places` places. `count` others came before, and there may be `most` in all.
-fn read_arcs(file: &[u8], at: usize, most: u8, places: u8, count: u8) -> Read
+fn read_arcs(file: &[u8], at: usize, most: u8, places: u8, count: u8) -> Result<usize, Misplaced>
     requires { at + 2 ≤ length file.now }
     ensures { Answers (ArcsIs most places count file.now at) (arcs_end file.now at) at result }
 {
-    if most <= count {
-        return Read::Bad(at);
+    let refusal = Misplaced { place: at };
+    let label = file.get(at + 2).ok_or(refusal)?;
+    if most <= count || 32 <= *label {
+        return Err(refusal);
     }
-    let label = at + 2;
-    if file.len() <= label {
-        return Read::Bad(at);
-    }
-    if 32 <= file[label] {
-        return Read::Bad(at);
-    }
-    let Read::Good(outputs) = read_list(file, at + 3, places, at) else {
-        return Read::Bad(at);
-    };
+    let outputs = read_list(file, at + 3, places, at)?;
     read_list(file, outputs, places, at)
 }
 
 // PR: a pair of numbers below `transitions`, which comes after the last of the pairs so far.
-fn read_pr(file: &[u8], at: usize, transitions: u8, pairs: Pairs) -> Read
+fn read_pr(file: &[u8], at: usize, transitions: u8, pairs: Pairs) -> Result<usize, Misplaced>
     requires { at ≤ length file.now }
     ensures { Answers (PrIs transitions pairs file.now at) (pr_end file.now at) at result }
 {
-    let count = wide(pairs.count);
-    if 32 <= count {
-        return Read::Bad(at);
+    let refusal = Misplaced { place: at };
+    let [_, _, higher, lower, ..] = &file[at..] else {
+        return Err(refusal);
+    };
+    let count = usize::from(pairs.count);
+    if 32 <= count || transitions <= *higher || transitions <= *lower {
+        return Err(refusal);
     }
-    if file.len() - at < 4 {
-        return Read::Bad(at);
+    if count == 0 || (pairs.higher[count - 1], pairs.lower[count - 1]) < (*higher, *lower) {
+        Ok(at + 4)
+    } else {
+        Err(refusal)
     }
-    let higher = file[at + 2];
-    let lower = file[at + 3];
-    if transitions <= higher {
-        return Read::Bad(at);
-    }
-    if transitions <= lower {
-        return Read::Bad(at);
-    }
-    if count == 0 {
-        return Read::Good(at + 4);
-    }
-    let last = count - 1;
-    if pairs.higher[last] < higher {
-        return Read::Good(at + 4);
-    }
-    if pairs.higher[last] == higher {
-        if pairs.lower[last] < lower {
-            return Read::Good(at + 4);
-        }
-    }
-    Read::Bad(at)
 }
 
 // QF: bounds for each of the pattern's places, none above the pattern's cap. `count` others came before.
-fn read_qf(file: &[u8], at: usize, places: u8, cap: u8, count: u8) -> Read
+fn read_qf(file: &[u8], at: usize, places: u8, cap: u8, count: u8) -> Result<usize, Misplaced>
     requires { at + 2 ≤ length file.now }
     ensures { Answers (QfIs places cap count file.now at) (qf_end places at) at result }
 {
-    if 8 <= count {
-        return Read::Bad(at);
-    }
     let from = at + 2;
-    let width = wide(places);
-    if file.len() - from < 2 * width {
-        return Read::Bad(at);
+    let places = usize::from(places);
+    if count < 8 && 2 * places <= file.len() - from && all_bounded(file, at, places, cap) {
+        Ok(from + 2 * places)
+    } else {
+        Err(Misplaced { place: at })
     }
-    if all_bounded(file, at, width, cap) {
-        return Read::Good(from + 2 * width);
-    }
-    Read::Bad(at)
 }
 
 // LG: the log's labels, each of them observable.
-fn read_lg(file: &[u8], at: usize, flags: &[u8; 32]) -> Read
+fn read_lg(file: &[u8], at: usize, flags: &[u8; 32]) -> Result<usize, Misplaced>
     requires { at + 2 ≤ length file.now }
     ensures { Answers (LgIs flags.now file.now at) (lg_end file.now at) at result }
 {
-    let list = at + 2;
-    if file.len() <= list {
-        return Read::Bad(at);
+    let refusal = Misplaced { place: at };
+    let (count, rest) = file[at + 2..].split_first().ok_or(refusal)?;
+    let labels = rest.get(..usize::from(*count)).ok_or(refusal)?;
+    if *count <= 40 && all_observed(labels, flags) {
+        Ok(at + 3 + labels.len())
+    } else {
+        Err(refusal)
     }
-    let count = wide(file[list]);
-    if 40 < count {
-        return Read::Bad(at);
-    }
-    let from = list + 1;
-    if file.len() - from < count {
-        return Read::Bad(at);
-    }
-    if all_observed(file, from, count, flags) {
-        return Read::Good(from + count);
-    }
-    Read::Bad(at)
 }
 
 // Reads the record at `at`, whose mark is `mark`, after records that say what `case` holds.
-pub fn read_record(file: &[u8], at: usize, mark: Mark, case: Case) -> Read
+pub fn read_record(file: &[u8], at: usize, mark: Mark, case: Case) -> Result<usize, Misplaced>
     requires { at + 2 ≤ length file.now }
     ensures { Answers (FieldsAre mark case file.now at) (end_at mark case file.now at) at result }
 {
@@ -153,15 +105,15 @@ pub fn read_record(file: &[u8], at: usize, mark: Mark, case: Case) -> Read
         Mark::Ob => read_list(file, at + 2, 32, at),
         Mark::Pt => read_net(file, at, 8),
         Mark::Px => read_arcs(file, at, 16, case.pattern.places, case.links.count),
-        Mark::Qf => {
-            let pattern = case.pattern;
-            read_qf(file, at, pattern.places, pattern.cap, case.bounds.count)
-        }
-        Mark::Lg => {
-            let flags = case.observable.flags;
-            read_lg(file, at, &flags)
-        }
-        Mark::En => Read::Good(at + 2),
-        Mark::Absent => Read::Bad(at),
+        Mark::Qf => read_qf(
+            file,
+            at,
+            case.pattern.places,
+            case.pattern.cap,
+            case.bounds.count,
+        ),
+        Mark::Lg => read_lg(file, at, &case.observable.flags),
+        Mark::En => Ok(at + 2),
+        Mark::Absent => Err(Misplaced { place: at }),
     }
 }

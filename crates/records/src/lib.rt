@@ -10,9 +10,8 @@ mod stretch;
 pub use fields::read_record;
 pub use marks::{EN, NO_MARK, mark_at, may_follow, number_of};
 
-// What reading a record answers: it is good, with the offset after it, or bad, with the refusal's place.
-#[derive(Clone, Copy)]
-pub enum Read {
-    Good(usize),
-    Bad(usize),
+// What refuses a file: a record that is wrong, at the refusal's place.
+#[derive(Clone, Copy, Debug, PartialEq, Eq)]
+pub struct Misplaced {
+    pub place: usize,
 }
