@@ -1,17 +1,17 @@
 -- What opening a file answers: the plan of its case and the table of its reachable product markings where none of the checks 1 to 9 speaks, else the
 -- first that does.
 -- Assumes nothing.
-use Rattle.std.specs.Prelude.{ℕ, ◌<◌, ◌≤◌, ◌≡◌, List, length}
+use Rattle.std.specs.Prelude.{ℕ, ◌<◌, ◌≤◌, ◌≡◌, List, length, Result, Ok, Err}
 use Rattle.rack.specs.Layout.{ReadsAs, BreaksAt}
 use Rattle.rack.specs.WellFormed.{WellFormed}
 use Rattle.rack.specs.Refusal.{NetsPass}
+use Rattle.rack.specs.Refused.{number_of, beside_of}
 use Rattle.rack.specs.NetChecks.{NetRefuses, NetAccepts, pattern_order, product_order}
 use Rattle.rack.specs.Outcome.{zeroed}
 use Rattle.rack.specs.declared.Case.{Case}
+use Rattle.rack.specs.declared.Refusal.{Refusal}
 use Rattle.plan.specs.Plan.{planned}
 use Rattle.reach.specs.Table.{TableOf}
-use Rattle.admit.specs.declared.Answer.{Answer}
-use Rattle.admit.specs.declared.Answer.TheVariants.{Table, Refused}
 
 -- ---- the checks 3 to 9 of a case that has been read
 
@@ -25,14 +25,6 @@ pub record Passes (c : Case) (room : List ℕ) (n : ℕ) : Type 0 where
   pub well : WellFormed c
   pub nets : NetsPass c
   pub table : TableOf c room n
-
-abbrev pub AnswerSays : Case → List ℕ → Answer → Type 0
-AnswerSays c room (Table n) = Passes c room n
-AnswerSays c room (Refused n m) = NetsRefuse c n m
-
-pub record CaseSays (c : Case) (room₀ room : List ℕ) (r : Answer) : Type 0 where
-  pub long : length room ≡ length room₀
-  pub answer : AnswerSays c room r
 
 -- ---- a file
 
@@ -53,9 +45,11 @@ pub record Opened (f : List ℕ) (needed : ℕ) (work₀ plan work : List ℕ) (
   pub reads : ReadsAs f (planned plan)
   pub passes : Passes (planned plan) work n
 
-abbrev pub OpenAnswer : List ℕ → ℕ → List ℕ → List ℕ → List ℕ → Answer → Type 0
-OpenAnswer f needed work₀ plan work (Table n) = Opened f needed work₀ plan work n
-OpenAnswer f needed work₀ plan work (Refused n m) = (work ≡ zeroed work₀) × OpenRefuses f needed (length work₀) n m
+-- the checks are made; what one of them that speaks has found so far may still stand in the work room
+abbrev pub CheckedSays : List ℕ → ℕ → List ℕ → List ℕ → List ℕ → Result ℕ Refusal → Type 0
+CheckedSays f needed work₀ plan work (Ok n) = Opened f needed work₀ plan work n
+CheckedSays f needed work₀ plan work (Err r) = (length work ≡ length work₀) × OpenRefuses f needed (length work₀) (number_of r) (beside_of r)
 
-pub record OpenSays (f : List ℕ) (needed : ℕ) (work₀ plan work : List ℕ) (r : Answer) : Type 0 where
-  pub answer : OpenAnswer f needed work₀ plan work r
+abbrev pub OpenSays : List ℕ → ℕ → List ℕ → List ℕ → List ℕ → Result ℕ Refusal → Type 0
+OpenSays f needed work₀ plan work (Ok n) = Opened f needed work₀ plan work n
+OpenSays f needed work₀ plan work (Err r) = (work ≡ zeroed work₀) × OpenRefuses f needed (length work₀) (number_of r) (beside_of r)

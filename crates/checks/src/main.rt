@@ -3,7 +3,6 @@
 
 #![tactic(auto)]
 
-use admit::Answer;
 use plan::PLAN;
 use rack::{LONGEST_FILE, WORK_ROOM};
 use std::io;
@@ -15,11 +14,11 @@ fn main(rt: HostRuntime) -> io::Result<()> {
     let n = input::read_full(&mut rt.stdin(), &mut file)?;
     let answer = admit::open(&file[..n], WORK_ROOM, &mut plan, &mut work);
     match answer {
-        Answer::Table(rows) => {
+        Ok(rows) => {
             report::text(&rt, b"accepted ")?;
             report::number(&rt, rows)?;
             report::line_end(&rt)
         }
-        Answer::Refused(number, beside) => report::refused(&rt, number, beside),
+        Err(refusal) => report::refused(&rt, refusal.number(), refusal.beside()),
     }
 }

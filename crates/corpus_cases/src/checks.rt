@@ -2,7 +2,6 @@
 // lent full of 255. Where the case is accepted, its first rows are the reachable product markings in ascending order of their bytes: the
 // table says which, and the line says so if they differ; nothing is promised of the bytes behind them. After a refusal every byte is a zero, and
 // the line says so if one is not.
-use admit::Answer;
 use corpus::Taken;
 use plan::PLAN;
 use rack::WORK_ROOM;
@@ -37,8 +36,8 @@ fn answer(rt: &impl Print, file: &[u8], table: &[u8], work: &mut [u8]) -> io::Re
     corpus::fill(work, FULL);
     let answer = admit::open(file, WORK_ROOM, &mut plan, work);
     match answer {
-        Answer::Table(rows) => accepted(rt, rows, work, table),
-        Answer::Refused(number, beside) => refused(rt, number, beside, work),
+        Ok(rows) => accepted(rt, rows, work, table),
+        Err(refusal) => refused(rt, refusal.number(), refusal.beside(), work),
     }
 }
 

@@ -11,7 +11,6 @@ ghost use Rattle.steps.specs.Walkable.{Ready};
 ghost use Rattle.judge.specs.CaseJudged.{refused_by, Shown};
 ghost use Rattle.judge.specs.Kinds.{KindAt, NoneOfKind, KindSays};
 
-use admit::Answer;
 use plan::{PLAN, Plan};
 use rack::{Judged, REFUSED_LENT_ROOM, REFUSED_UNEXPLAINED, Verdict, WORK_ROOM};
 use search::Place;
@@ -133,8 +132,8 @@ pub fn judge(file: &[u8], matching: &mut [u8], other: &mut [u8], work: &mut [u8]
     let mut plan = [0u64; PLAN];
     let answer = admit::open(file, WORK_ROOM, &mut plan, work);
     match answer {
-        Answer::Refused(number, beside) => refused(number, beside),
-        Answer::Table(rows) => {
+        Err(refusal) => refused(refusal.number(), refusal.beside()),
+        Ok(rows) => {
             let found = search::search(&plan, work, rows);
             let met = found.met;
             let first = found.matching;

@@ -1,11 +1,14 @@
 -- From the listing of a case that has been read to the outcome of the call on its file. Assumes nothing.
 use Prim.Native.Nat.{ℕ, ◌≤◌}
-use mathlib.Core.Path.{◌≡◌, refl, sym, subst}
+use mathlib.Core.Path.{refl, sym, subst}
 use mathlib.Core.List.{List, [], ◌∷◌, ◌++◌}
 use lib.ListN.{length}
 use Rattle.rack.specs.Listing.{Asked, NextIs}
 use Rattle.rack.specs.Layout.{ReadsAs, BreaksAt}
 use Rattle.rack.specs.Refusal.{Own, given_run, lent-room, Check, work-room, own, work_room, NetsPass, Question, Refuses, speaks, rests}
+use Rattle.std.proofs.Common.{Err}
+use Rattle.rack.specs.Refused.{number_of, beside_of}
+use Rattle.rack.specs.declared.Refusal.{Refusal}
 use Rattle.rack.specs.NetChecks.{pattern_order, product_order}
 use Rattle.rack.specs.Outcome.{zeroed}
 use Rattle.rack.specs.ListingOutcome.{of_listing, limit_most, GivenBad, NextFits, ListingSays, limit_over, given_bad, next_short, ListingRests, limit_kept, given_fine, ListingIs}
@@ -18,15 +21,14 @@ use Rattle.rack.proofs.OneFirst.{next_one}
 use Rattle.rack.proofs.Lift.{layout_rests, lift_refuses, lift_on, passes_accept}
 use Rattle.rack.proofs.Answer.{listing_accepts, answer_end}
 use Rattle.admit.specs.Admits.{NetsRefuse, of_pattern, of_product}
-use Rattle.listing.specs.Barred.{Barred, by_room, by_limit, by_neither}
+use Rattle.listing.specs.Barred.{Barred, by_room, by_limit}
 use Rattle.listing.specs.CaseListed.{Shown, matching, other, end, short, CaseListed, bad, shown}
 
 module _ (f : List ℕ) (most : ℕ) (asked : Asked) (room work : List ℕ) where
   -- 1, the work room is too short, and 12, the limit is over 24
-  pub barred_outcome : {n : ℕ} → Barred (length work) most n → (n ≡ 0 → ⊥) → ListingIs f most asked room work (Refused n 0) room (zeroed work)
-  barred_outcome (by_room h) e = outcome.refused (speaks {k = work-room} (h, refl))
-  barred_outcome (by_limit r h) e = outcome.refused (rests r (speaks (limit_over h)))
-  barred_outcome (by_neither r h) e = absurd (e refl)
+  pub barred_outcome : {r : Refusal} → Barred (length work) most (Err r) → ListingIs f most asked room work (Refused (number_of r) (beside_of r)) room (zeroed work)
+  barred_outcome (by_room h) = outcome.refused (speaks {k = work-room} (h, refl))
+  barred_outcome (by_limit r h) = outcome.refused (rests r (speaks (limit_over h)))
 
   module _ (enough : work_room ≤ length work) (low : most ≤ limit_most) where
     -- 2: the file breaks the layout

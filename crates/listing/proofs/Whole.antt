@@ -12,37 +12,29 @@ use Rattle.rack.specs.declared.Listed.{Listed}
 use Rattle.rack.specs.declared.Listed.TheVariants.{Refused}
 use Rattle.plan.specs.Plan.{planned}
 use Rattle.admit.specs.Admits.{of_layout, of_nets, short, of_refused_file, Opened, OpenSays}
-use Rattle.admit.specs.declared.Answer.{Answer}
-use Rattle.listing.specs.Barred.{Barred, by_neither, BeginRefuses, of_bar, of_open, BeginAnswer, BeginSays}
+use Rattle.rack.specs.declared.Refusal.{Refusal}
+use Rattle.std.proofs.Common.{Result, Ok, Err, is_ok, true, refl}
+use Rattle.std.proofs.lemmas.Bool.{false≢true}
+use Rattle.listing.specs.Barred.{Barred, by_room, by_limit, by_neither, BeginRefuses, of_bar, of_open, BeginSays}
 use Rattle.listing.specs.CaseListed.{ListedSays, Listing}
 use Rattle.listing.proofs.Listing.{barred_outcome, broken_file, nets_refuse, listing_of}
 
 -- ---- what a listing begins with
 
-low_limit : {work most : ℕ} → Barred work most 0 → most ≤ limit_most
-low_limit (by_neither r h) = h
+low_limit : {work most : ℕ} {r : Result (Unit {0}) Refusal} → Barred work most r → is_ok r ≡ true → most ≤ limit_most
+low_limit (by_neither r h) e = h
+low_limit (by_room h) e = absurd (false≢true e)
+low_limit (by_limit r h) e = absurd (false≢true e)
 
-long_room : {work most : ℕ} → Barred work most 0 → work_room ≤ work
-long_room (by_neither r h) = r
+long_room : {work most : ℕ} {r : Result (Unit {0}) Refusal} → Barred work most r → is_ok r ≡ true → work_room ≤ work
+long_room (by_neither r h) e = r
+long_room (by_room h) e = absurd (false≢true e)
+long_room (by_limit r h) e = absurd (false≢true e)
 
-pub bar_refuses : {f : List ℕ} {most : ℕ} {work₀ plan work : List ℕ} {n : ℕ} → Barred (length work₀) most n → (n ≡ 0 → ⊥) → work ≡ zeroed work₀
-    → BeginSays f most work₀ plan work (Answer.Refused n 0)
-bar_refuses b e z = record { answer = (z, of_bar b e) }
-
-pub bar_passes : {f : List ℕ} {most : ℕ} {work₀ plan work : List ℕ} {n : ℕ} {r : Answer} → Barred (length work₀) most n → n ≡ 0 → OpenSays f work_room work₀ plan work r
+pub bar_passes : (f : List ℕ) {most : ℕ} (work₀ plan work : List ℕ) (r : Result ℕ Refusal) → Barred (length work₀) most (Ok tt) → OpenSays f work_room work₀ plan work r
     → BeginSays f most work₀ plan work r
-bar_passes {f} {most} {work₀} {plan} {work} {r = r} b e x = record { answer = go r (subst (Barred (length work₀) most) e b) x }
-  where
-    go : (r : Answer) → Barred (length work₀) most 0 → OpenSays f work_room work₀ plan work r → BeginAnswer f most work₀ plan work r
-    go (Answer.Table n) b x = (low_limit b, x.answer)
-    go (Answer.Refused n m) b x = (x.answer.0, of_open b x.answer.1)
-
-module _ {f : List ℕ} {most : ℕ} {work₀ plan work : List ℕ} {r : Answer} (x : BeginSays f most work₀ plan work r) where
-  pub begun : {n : ℕ} → r ≡ Answer.Table n → (most ≤ limit_most) × Opened f work_room work₀ plan work n
-  begun e = subst (BeginAnswer f most work₀ plan work) e x.answer
-
-  pub not_begun : {n m : ℕ} → r ≡ Answer.Refused n m → (work ≡ zeroed work₀) × BeginRefuses f most (length work₀) n m
-  not_begun e = subst (BeginAnswer f most work₀ plan work) e x.answer
+bar_passes f work₀ plan work (Ok n) b x = (low_limit b refl, x)
+bar_passes f work₀ plan work (Err r) b x = (x.0, of_open b x.1)
 
 -- what the listing of a case asks holds of a file that was opened
 pub ready_to_list : {f : List ℕ} {most : ℕ} {work₀ plan work : List ℕ} {n : ℕ} → (most ≤ limit_most) × Opened f work_room work₀ plan work n → Listing (planned plan) work n most
@@ -55,10 +47,10 @@ ready_to_list (low, o) =
 module _ (f : List ℕ) (most : ℕ) (asked : Asked) (room work : List ℕ) where
   -- 1, 12 and 2 to 9
   refused_outcome : {n m : ℕ} → BeginRefuses f most (length work) n m → ListingIs f most asked room work (Refused n m) room (zeroed work)
-  refused_outcome (of_bar b e) = barred_outcome f most asked room work b e
-  refused_outcome (of_open b (short h)) = absurd (omega (arith, long_room b))
-  refused_outcome (of_open b (of_refused_file h (of_layout w))) = broken_file f most asked room work h (low_limit b) w
-  refused_outcome (of_open b (of_refused_file h (of_nets p s))) = nets_refuse f most asked room work h (low_limit b) p s
+  refused_outcome (of_bar b) = barred_outcome f most asked room work b
+  refused_outcome (of_open b (short h)) = absurd (omega (arith, long_room b refl))
+  refused_outcome (of_open b (of_refused_file h (of_layout w))) = broken_file f most asked room work h (low_limit b refl) w
+  refused_outcome (of_open b (of_refused_file h (of_nets p s))) = nets_refuse f most asked room work h (low_limit b refl) p s
 
   pub refusal : {v : List ℕ} {n m : ℕ} → (v ≡ zeroed work) × BeginRefuses f most (length work) n m → ListingIs f most asked room work (Refused n m) room v
   refusal {v} {n} {m} o = subst (ListingIs f most asked room work (Refused n m) room) (sym o.0) (refused_outcome o.1)

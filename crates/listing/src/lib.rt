@@ -15,24 +15,23 @@ ghost use Rattle.listing.specs.Barred.{Barred, BeginSays};
 ghost use Rattle.listing.specs.CaseListed.{Listing, ListedSays, LogSays};
 
 use crate::giving::{give_and_clear, is_good};
-use admit::Answer;
 use plan::{PLAN, Plan, events, transitions};
-use rack::{LIMIT_MOST, Listed, REFUSED_GIVEN_RUN, REFUSED_LIMIT, REFUSED_WORK_ROOM, WORK_ROOM};
+use rack::{LIMIT_MOST, Listed, REFUSED_GIVEN_RUN, Refusal, WORK_ROOM};
 use seek::Sought;
 
 mod giving; // giving.rt: giving a run that has been found
 
-// The checks that look at no file, 1 and 12, by the work room's length and the limit: the number of the first that speaks, or 0.
-fn barred(bytes: usize, limit: usize) -> u8
+// The checks that look at no file, 1 and 12, by the work room's length and the limit.
+fn barred(bytes: usize, limit: usize) -> Result<(), Refusal>
     ensures { Barred bytes limit result }
 {
     if bytes < WORK_ROOM {
-        return REFUSED_WORK_ROOM;
+        return Err(Refusal::WorkRoom);
     }
     if LIMIT_MOST < limit {
-        return REFUSED_LIMIT;
+        return Err(Refusal::Limit);
     }
-    0
+    Ok(())
 }
 
 // A refusal: the work room is all zeros afterwards.
@@ -46,14 +45,13 @@ fn refuse(work: &mut [u8], number: u8, beside: usize) -> Listed
 
 // What a listing begins with: the checks 1, 12 and 2 to 9. Where none speaks, the plan is that of the file's case, and the first rows of the work
 // room are its reachable product markings; a refusal leaves the work room all zeros.
-fn begin(file: &[u8], limit: usize, plan: &mut Plan, work: &mut [u8]) -> Answer
+fn begin(file: &[u8], limit: usize, plan: &mut Plan, work: &mut [u8]) -> Result<usize, Refusal>
     requires { length plan.old ≡ plan_size }
     ensures { BeginSays file.now limit work.old plan.new work.new result }
 {
-    let early = barred(work.len(), limit);
-    if early != 0 {
+    if let Err(refusal) = barred(work.len(), limit) {
         room::clear(work);
-        return Answer::Refused(early, 0);
+        return Err(refusal);
     }
     admit::open(file, WORK_ROOM, plan, work)
 }
@@ -121,8 +119,8 @@ pub fn first(file: &[u8], limit: usize, room: &mut [u8], work: &mut [u8]) -> Lis
     let mut plan = [0u64; PLAN];
     let answer = begin(file, limit, &mut plan, work);
     match answer {
-        Answer::Refused(number, beside) => Listed::Refused(number, beside),
-        Answer::Table(rows) => first_of(&plan, rows, limit, room, work),
+        Err(refusal) => Listed::Refused(refusal.number(), refusal.beside()),
+        Ok(rows) => first_of(&plan, rows, limit, room, work),
     }
 }
 
@@ -133,7 +131,7 @@ pub fn next(file: &[u8], limit: usize, given: &[u8], room: &mut [u8], work: &mut
     let mut plan = [0u64; PLAN];
     let answer = begin(file, limit, &mut plan, work);
     match answer {
-        Answer::Refused(number, beside) => Listed::Refused(number, beside),
-        Answer::Table(rows) => next_of(&plan, rows, limit, given, room, work),
+        Err(refusal) => Listed::Refused(refusal.number(), refusal.beside()),
+        Ok(rows) => next_of(&plan, rows, limit, given, room, work),
     }
 }

@@ -1,20 +1,19 @@
 -- What the answers of the checks on priority pairs and pattern say of the case.
 -- Assumes nothing.
-use Rattle.std.specs.Prelude.{ℕ, List}
+use Rattle.std.specs.Prelude.{ℕ, ◌≡◌, List, Option, Some, None, Result, Ok, Err}
 use Rattle.rack.specs.NetChecks.{NetRefuses, NetAccepts, pattern_order}
+use Rattle.rack.specs.Refused.{number_of, beside_of}
 use Rattle.rack.specs.declared.Case.{Case}
+use Rattle.rack.specs.declared.Refusal.{Refusal}
+use Rattle.rack.specs.declared.SystemTransition.{SystemTransition}
 use Rattle.pattern.specs.Chains.{OpenAt}
-use Rattle.pattern.specs.declared.cycle.Open.{Open}
-use Rattle.pattern.specs.declared.cycle.Open.TheVariants.{At, Nothing}
-use Rattle.pattern.specs.declared.Checked.{Checked}
-use Rattle.pattern.specs.declared.Checked.TheVariants.{Pass, Refused}
 
 -- a pair leads from a marked transition to t, which is not marked, or no pair leads so
-abbrev pub OpenSays : Case → List ℕ → Open → Type 0
-OpenSays c marks (At t) = OpenAt c marks t.0
-OpenSays c marks Nothing = (t : ℕ) → OpenAt c marks t → ⊥
+abbrev pub OpenSays : Case → List ℕ → Option SystemTransition → Type 0
+OpenSays c marks (Some t) = OpenAt c marks t.0
+OpenSays c marks None = (t : ℕ) → OpenAt c marks t → ⊥
 
--- none of 3 to 7 speaks, or n is the number of the first that does
-abbrev pub CheckedSays : Case → Checked → Type 0
-CheckedSays c Pass = NetAccepts c pattern_order
-CheckedSays c (Refused n) = NetRefuses c pattern_order n
+-- none of 3 to 7 speaks, or the refusal is the first that does
+abbrev pub CheckedSays : Case → Result (Unit {0}) Refusal → Type 0
+CheckedSays c (Ok u) = NetAccepts c pattern_order
+CheckedSays c (Err r) = NetRefuses c pattern_order (number_of r) × (beside_of r ≡ 0)

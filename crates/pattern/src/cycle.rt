@@ -11,14 +11,7 @@ use plan::Plan;
 use rack::SystemTransition;
 
 // A transition that is to be marked next: a pair leads to it from a marked one, and it has no mark yet.
-#[derive(Clone, Copy)]
-pub enum Open {
-    At(SystemTransition),
-    Nothing,
-}
-
-// Looks through the pairs for a marked higher transition whose lower one is not marked.
-fn open_pair<'a, 'b>(marks: &'a [u8; 48], plan: &'b Plan) -> Open
+fn open_pair<'a, 'b>(marks: &'a [u8; 48], plan: &'b Plan) -> Option<SystemTransition>
     requires { WellFormed (planned plan.now) }
     ensures { OpenSays (planned plan.now) marks.now result }
 {
@@ -29,12 +22,12 @@ fn open_pair<'a, 'b>(marks: &'a [u8; 48], plan: &'b Plan) -> Open
         let under = plan::lower(plan, k);
         if marks[above] == 1 {
             if marks[under] != 1 {
-                return Open::At(SystemTransition(under));
+                return Some(SystemTransition(under));
             }
         }
         k += 1;
     }
-    Open::Nothing
+    None
 }
 
 // Whether a chain of pairs, perhaps of none, leads from one transition down to another: marks spread from the one along the pairs
@@ -48,18 +41,11 @@ fn leads_down(from: SystemTransition, goal: SystemTransition, plan: &Plan) -> bo
     let last = goal.0;
     let mut marks = [0u8; 48];
     marks[first] = 1;
-    loop {
-        let found = open_pair(&marks, plan);
-        match found {
-            Open::At(t) => {
-                let n = t.0;
-                marks[n] = 1;
-            }
-            Open::Nothing => {
-                return marks[last] == 1;
-            }
-        }
+    while let Some(t) = open_pair(&marks, plan) {
+        let n = t.0;
+        marks[n] = 1;
     }
+    marks[last] == 1
 }
 
 // Whether some pair's lower transition leads back to its higher one. Every pair is tried: a cycle of more pairs would show from any other

@@ -3,7 +3,6 @@ use Prim.Native.Nat.{ℕ}
 use mathlib.Core.Path.{◌≡◌, refl, sym, ap, ◌∙◌, subst}
 use mathlib.Core.Bool.{Bool, true, false, ◌&&◌}
 use mathlib.Core.List.{List, [], ◌∷◌}
-use native.Mathlib.Omega.{arith}
 use borrow.Author.Tests.{eqb-true}
 use lib.ListN.{length, take}
 use lib.Seq.{take-length}
@@ -15,8 +14,8 @@ use Rattle.lanes.specs.Lanes.{tokens_of_system, tokens_of_pattern}
 use Rattle.rack.specs.Follow.{ProductMarking, final, start, step}
 use Rattle.rack.specs.Outcome.{of_file, NoneSays, NoneRests}
 use Rattle.rack.specs.CaseFileOutcome.{ReaderIs}
-use Rattle.rack.specs.CaseFileOutcome as reader
-use Rattle.rack.specs.Layout.{ReadsAs}
+use Rattle.rack.specs.Layout.{ReadsAs, BreaksAt}
+use Rattle.rack.specs.NetChecks.{NetRefuses, NetAccepts, pattern_order}
 use Rattle.rack.specs.Reach.{product_within}
 use Rattle.rack.specs.Refusal.{speaks, rests, also, none}
 use Rattle.rack.specs.Replay.{goes_on, count, explains, says_explains}
@@ -32,8 +31,6 @@ use Rattle.rack.proofs.Replaying.{count-is}
 use Rattle.rack.proofs.WellFormed.{well_formed, log_long}
 use Rattle.reader.proofs.Given.{given_whole}
 use Rattle.engine.specs.Markings.{product_of}
-use Rattle.pattern.specs.Outcome.{CheckedSays}
-use Rattle.pattern.specs.declared.Checked.{Checked}
 use Rattle.retrace.specs.Firings.{position_of, FiredSays}
 use Rattle.retrace.specs.declared.Fired.{Fired}
 use Rattle.retrace.proofs.Positions.{position_explains}
@@ -83,14 +80,9 @@ module _ {c : Case} (w : WellFormed c) where
 
 -- ---- the answer for a file
 
--- the reader refuses by 2 alone
-pub layout_refuses : {f run : List ℕ} {budget : ℕ} {r : Reading} {n m : ℕ} {a : Replayed} → ReaderIs f r → r.outcome ≡ Outcome.Refused n m → a ≡ replay_refused n m → ReplayIs f run budget a
-layout_refuses (reader.read x) e q = let z : ◌≡◌ {A = ℕ} 0 1 = cc in absurd (omega arith)
-layout_refuses {f} {run} {budget} {n = n} {m = m} (reader.refused {m = k} (speaks b)) e q =
-    let two : 2 ≡ n = cc in
-    let place : k ≡ m = cc in
-    subst (ReplayIs f run budget) (ap (λ (i : ℕ). replay_refused i k) two ∙ ap (replay_refused n) place ∙ sym q) (refused (speaks b))
-layout_refuses {f} {run} {budget} {n = n} {m = m} {a = a} (reader.refused {m = k} (rests _ x)) e q = elim x [ ]
+-- the reader refuses by 2
+pub layout_refuses : {f run : List ℕ} {budget place : ℕ} {a : Replayed} → BreaksAt f place → a ≡ replay_refused 2 place → ReplayIs f run budget a
+layout_refuses {f} {run} {budget} b q = subst (ReplayIs f run budget) (sym q) (refused (speaks b))
 
 -- the file reads as the case c
 module _ {f : List ℕ} {r : Reading} {c : Case} (h : ReaderIs f r) (whole : r.outcome ≡ Outcome.Whole) (made : c ≡ r.case) where
@@ -101,13 +93,13 @@ module _ {f : List ℕ} {r : Reading} {c : Case} (h : ReaderIs f r) (whole : r.o
   file_well = well_formed reads
 
   -- a check on its nets speaks
-  pub nets_refuse : {run : List ℕ} {budget : ℕ} {x : Checked} {n : ℕ} {a : Replayed} → CheckedSays c x → x ≡ Checked.Refused n → a ≡ replay_refused n 0 → ReplayIs f run budget a
-  nets_refuse {run} {budget} y e q =
-      subst (ReplayIs f run budget) (sym q)
-      (refused (rests (layout_rests (of_file f) NoneSays NoneRests c reads) (lift_refuses (of_file f) NoneSays NoneRests c reads [] (subst (CheckedSays c) e y))))
+  pub nets_refuse : {run : List ℕ} {budget : ℕ} {n m : ℕ} {a : Replayed} → NetRefuses c pattern_order n × (m ≡ 0) → a ≡ replay_refused n m → ReplayIs f run budget a
+  nets_refuse {run} {budget} {n} s q =
+      subst (ReplayIs f run budget) (sym (q ∙ ap (replay_refused n) s.1))
+      (refused (rests (layout_rests (of_file f) NoneSays NoneRests c reads) (lift_refuses (of_file f) NoneSays NoneRests c reads [] s.0)))
 
   -- none speaks
-  pub nets_pass : {run : List ℕ} {budget : ℕ} {x : Checked} {a : Replayed} → CheckedSays c x → x ≡ Checked.Pass → a ≡ replay_of c run budget → ReplayIs f run budget a
-  nets_pass {run} {budget} y e q =
+  pub nets_pass : {run : List ℕ} {budget : ℕ} {a : Replayed} → NetAccepts c pattern_order → a ≡ replay_of c run budget → ReplayIs f run budget a
+  nets_pass {run} {budget} s q =
       subst (ReplayIs f run budget) (sym q)
-      (replayed (also (layout_rests (of_file f) NoneSays NoneRests c reads) (lift_accepts (of_file f) NoneSays NoneRests c reads (subst (CheckedSays c) e y) none)) reads)
+      (replayed (also (layout_rests (of_file f) NoneSays NoneRests c reads) (lift_accepts (of_file f) NoneSays NoneRests c reads s none)) reads)

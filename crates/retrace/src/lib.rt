@@ -4,17 +4,17 @@
 
 #![tactic(auto)]
 
-ghost use Rattle.std.specs.Prelude.{◌≡◌, ◌&&◌, eqb};
+ghost use Rattle.std.specs.Prelude.{◌≡◌};
 ghost use Rattle.rack.specs.Refusal.{PatternOver};
+ghost use Rattle.rack.specs.Refused.{number_of, beside_of};
 ghost use Rattle.rack.specs.WellFormed.{WellFormed};
 ghost use Rattle.rack.specs.ReplayOutcome.{ReplayIs, replay_of, replay_refused};
 ghost use Rattle.plan.specs.Plan.{planned};
 
 use crate::firing::fire;
 use engine::Product;
-use pattern::Checked;
 use plan::{PLAN, Plan};
-use rack::{Outcome, Replayed, Stop};
+use rack::{Outcome, Refusal, Replayed, Stop};
 
 mod firing; // firing.rt: the firings, one after the other
 
@@ -28,27 +28,17 @@ struct Fired {
 }
 
 // A refused replay: it fired none, and gives zeros and "no".
-fn refused(number: u8, beside: usize) -> Replayed
-    ensures { result ≡ replay_refused number beside }
+fn refused(refusal: Refusal) -> Replayed
+    ensures { result ≡ replay_refused (number_of refusal) (beside_of refusal) }
 {
     Replayed {
         fired: 0,
         system: [0u8; 16],
         pattern: [0u8; 8],
         matches: false,
-        stop: Stop::Refused(number, beside),
+        stop: Stop::Refused(refusal.number(), refusal.beside()),
         explains: false,
     }
-}
-
-// Whether the run ended and the log with it.
-fn both_ended(fired: usize, long: usize, at: usize, events: usize) -> bool
-    ensures { result ≡ (eqb fired long && eqb at events) }
-{
-    if fired == long {
-        return at == events;
-    }
-    false
 }
 
 // Replays a run on a case whose nets have passed the checks.
@@ -57,22 +47,14 @@ fn replay(plan: &Plan, run: &[u8], budget: u16) -> Replayed
     requires fact { PatternOver (planned plan.now) → ⊥ }
     ensures { result ≡ replay_of (planned plan.now) run.now budget }
 {
-    let done = fire(plan, run, budget as usize);
-    let marking = done.marking;
-    let system = marking.system;
-    let pattern = marking.pattern;
-    let tokens = system.tokens();
-    let pattern_tokens = pattern.tokens();
-    let fired = done.fired;
-    let stop = done.stop;
-    let matches = engine::is_final(plan, pattern);
-    let explains = both_ended(done.fired, run.len(), done.at, plan::events(plan));
+    let done = fire(plan, run, usize::from(budget));
+    let explains = done.fired == run.len() && done.at == plan::events(plan);
     Replayed {
-        fired,
-        system: tokens,
-        pattern: pattern_tokens,
-        matches,
-        stop,
+        fired: done.fired,
+        system: done.marking.system.tokens(),
+        pattern: done.marking.pattern.tokens(),
+        matches: engine::is_final(plan, done.marking.pattern),
+        stop: done.stop,
         explains,
     }
 }
@@ -83,16 +65,14 @@ pub fn retrace(file: &[u8], run: &[u8], budget: u16) -> Replayed
     ensures { ReplayIs file.now run.now budget result }
 {
     let reading = reader::read_case(file);
-    let outcome = reading.outcome;
-    match outcome {
-        Outcome::Refused(number, place) => refused(number, place),
+    match reading.outcome {
+        Outcome::Refused(_, place) => refused(Refusal::Layout(place)),
         Outcome::Whole => {
             let mut plan = [0u64; PLAN];
             plan::plan_of(&mut plan, reading.case);
-            let checked = pattern::check_pattern(&plan);
-            match checked {
-                Checked::Refused(number) => refused(number, 0),
-                Checked::Pass => replay(&plan, run, budget),
+            match pattern::check_pattern(&plan) {
+                Err(refusal) => refused(refusal),
+                Ok(()) => replay(&plan, run, budget),
             }
         }
     }

@@ -1,15 +1,15 @@
 -- `listing::first` lists every file, in every length of room. Assumes nothing.
 use Rattle.rack.specs.Listing.{from_start}
-use Rattle.listing.proofs.Whole.{begun, not_begun, ready_to_list, refusal, listed_outcome}
+use Rattle.listing.proofs.Whole.{ready_to_list, refusal, listed_outcome}
 use Rattle.listing.proofs.first.Goals as goal
 
 pub first_of-requires : goal.first_of-requires
-first_of-requires c = ready_to_list (begun c.begin-answer.ensures c.in-Table.is)
+first_of-requires c = ready_to_list c.in-Ok.ensures
 
-pub returns-in-Refused : goal.returns-in-Refused
-returns-in-Refused c = refusal c.args.file.now c.args.limit from_start c.args.room.now c.args.work.now (not_begun c.begin-answer.ensures c.in-Refused.is)
+pub returns-in-Err : goal.returns-in-Err
+returns-in-Err c = rw (c.number.ensures, c.beside.ensures) (refusal c.args.file.now c.args.limit from_start c.args.room.now c.args.work.now c.in-Err.ensures)
 
-pub returns-in-Table : goal.returns-in-Table
-returns-in-Table c =
-    listed_outcome c.args.file.now c.args.limit from_start c.args.room.now c.args.work.now (begun c.begin-answer.ensures c.in-Table.is)
+pub returns-in-Ok : goal.returns-in-Ok
+returns-in-Ok c =
+    listed_outcome c.args.file.now c.args.limit from_start c.args.room.now c.args.work.now c.in-Ok.ensures
     c.first_of.ensures
