@@ -2,7 +2,7 @@ pub mod Scans
 pub mod Firsts
 pub mod NetWords
 pub mod BoundLaws
-pub mod PlanWords
+pub mod WordLaws
 pub mod Outranking
 pub mod RankLaws
 pub mod Following
@@ -11,3 +11,4 @@ pub mod HereLaws
 pub mod Kept
 pub mod FitLaws
 pub mod PositionLaws
+pub mod Ranges
