@@ -4,7 +4,7 @@ use Prim.Native.Nat.{ℕ, ◌≤◌}
 use mathlib.Core.Path.{◌≡◌, refl, sym, subst}
 use mathlib.Core.Bool.{Bool, true, false, ◌&&◌, beq}
 use mathlib.Core.List.{List, [], ◌∷◌}
-use mathlib.Core.Option.{Option, none, some}
+use Rattle.std.proofs.Common.{Option, Some, None}
 use native.Mathlib.Omega.{arith}
 use lib.ListN.{length}
 use lib.Dec.{T, leb, eqb, leb→le, eqb→eq}
@@ -34,19 +34,19 @@ use Rattle.rack.specs.declared.Case.{Case}
 use Rattle.rack.proofs.Accept.{like_product, below, no_cycle, pattern_set, cap_kept, apart, single, final_kept, pattern_right, product_set, system_kept, product_right, accept_tests, passes_of}
 use Rattle.rack.proofs.Decide.{like_node, nodes, at_end, ends_test, at_length, all_up_to, first_test, all_test, next_test, end_test, first_of, all_of_kind, none-explains, next_of, end_of}
 use Rattle.rack.proofs.SameCase.{case_tests, same_case}
-use Rattle.rack.proofs.Parse.{list_tests, net_tests, arcs_tests, rises_test, pr_tests, qf_tests, lg_tests, fields_test, parse, parsed}
+use Rattle.rack.proofs.Parse.{list_tests, net_tests, arcs_tests, rises_test, pr_tests, qf_tests, lg_tests, fields_test, after_right, parse, parsed}
 use Rattle.rack.proofs.Answer.{answer_faulty, answer_safe, answer_ambiguous, answer_unexplained, given_good, answer_next, answer_end}
 
 -- ---- the case's file reads as the case
 
 read_test : Case → Option Case → Bool
-read_test c none = false
-read_test c (some d) = all_of (case_tests d c)
+read_test c None = false
+read_test c (Some d) = all_of (case_tests d c)
 
-read_of : (c : Case) (o : Option Case) → parse 200 (bytes_of c) 9 case_of_zeros 0 ≡ o → T (read_test c o) → ReadsAs (bytes_of c) c
+read_of : (c : Case) (o : Option Case) → parse 200 (bytes_of c) None case_of_zeros 0 ≡ o → T (read_test c o) → ReadsAs (bytes_of c) c
 unfolding read_test
-read_of c none e t = absurd t
-read_of c (some d) e t = subst (ReadsAs (bytes_of c)) (same_case d c t) (parsed e)
+read_of c None e t = absurd t
+read_of c (Some d) e t = subst (ReadsAs (bytes_of c)) (same_case d c t) (parsed e)
 
 -- ---- what a row expects
 
@@ -128,7 +128,7 @@ module _ (c : Case) (reads : ReadsAs (bytes_of c) c) (ok : NetsPass c) where
 -- ---- the table
 
 row_tests : Row → List Bool
-row_tests w = read_test w.case (parse 200 (bytes_of w.case) 9 case_of_zeros 0) ∷ all_of (accept_tests w.case) ∷ expected_test w.case w.call w.expected ∷ []
+row_tests w = read_test w.case (parse 200 (bytes_of w.case) None case_of_zeros 0) ∷ all_of (accept_tests w.case) ∷ expected_test w.case w.call w.expected ∷ []
 
 all_right : List Row → Bool
 all_right [] = true
@@ -141,7 +141,7 @@ all_of_lem [] t = tt
 all_of_lem (w ∷ ws) t =
     let l = row_tests w in
     let u = and_left (all_of (row_tests w)) (all_right ws) t in (
-      expected_of w.case (read_of w.case (parse 200 (bytes_of w.case) 9 case_of_zeros 0) refl (part l u 0)) (passes_of w.case (part l u 1)) w.call w.expected (part l u 2),
+      expected_of w.case (read_of w.case (parse 200 (bytes_of w.case) None case_of_zeros 0) refl (part l u 0)) (passes_of w.case (part l u 1)) w.call w.expected (part l u 2),
       all_of_lem ws (and_right (all_of (row_tests w)) (all_right ws) t),
     )
 
@@ -159,7 +159,7 @@ unfolding label_of joins follow start step pattern_goes product_within product_g
 running = tt
 
 unfoldable reading : Unit {0}
-unfolding mark_of follows nt_says pt_says tr_says px_says pr_says ob_says bounds qf_says observed lg_says case_of_zeros case_tests list_tests net_tests arcs_tests rises_test pr_tests qf_tests lg_tests fields_test parse
+unfolding mark_of follows nt_says pt_says tr_says px_says pr_says ob_says bounds qf_says observed lg_says case_of_zeros case_tests list_tests net_tests arcs_tests rises_test pr_tests qf_tests lg_tests fields_test after_right parse
 reading = tt
 
 unfoldable writing : Unit {0}
@@ -198,15 +198,15 @@ every_slip_told = all_of_lem slip_table slips_computed
 abbrev pub h4 : Case
 h4 = hub [] [] (0 ∷ 3 ∷ [])
 
-h4_computed : T (read_test h4 (parse 200 (bytes_of h4) 9 case_of_zeros 0) && all_of (accept_tests h4))
+h4_computed : T (read_test h4 (parse 200 (bytes_of h4) None case_of_zeros 0) && all_of (accept_tests h4))
 unfolding meaning
 h4_computed = tt
 
 pub h4_reads : ReadsAs (bytes_of h4) h4
-h4_reads = read_of h4 (parse 200 (bytes_of h4) 9 case_of_zeros 0) refl (and_left (read_test h4 (parse 200 (bytes_of h4) 9 case_of_zeros 0)) (all_of (accept_tests h4)) h4_computed)
+h4_reads = read_of h4 (parse 200 (bytes_of h4) None case_of_zeros 0) refl (and_left (read_test h4 (parse 200 (bytes_of h4) None case_of_zeros 0)) (all_of (accept_tests h4)) h4_computed)
 
 pub h4_passes : NetsPass h4
-h4_passes = passes_of h4 (and_right (read_test h4 (parse 200 (bytes_of h4) 9 case_of_zeros 0)) (all_of (accept_tests h4)) h4_computed)
+h4_passes = passes_of h4 (and_right (read_test h4 (parse 200 (bytes_of h4) None case_of_zeros 0)) (all_of (accept_tests h4)) h4_computed)
 
 -- "With log 0 3 the file has 83 bytes."
 pub hub_file_long : length (bytes_of h4) ≡ 83

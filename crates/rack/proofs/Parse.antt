@@ -4,21 +4,20 @@ use mathlib.Core.Path.{◌≡◌, refl, subst}
 use mathlib.Core.Bool.{Bool, true, false, ◌&&◌, ◌||◌}
 use mathlib.Core.List.{List, [], ◌∷◌}
 use mathlib.Core.Logic.{◌⊎◌, inl, inr, ⊎_elim}
-use mathlib.Core.Option.{Option, none, some}
-use native.Mathlib.Omega.{arith}
+use Rattle.std.proofs.Common.{Option, Some, None}
 use lib.ListN.{length, get_or}
 use lib.Dec.{T, ltb, leb, eqb, ltb→lt, leb→le, eqb→eq}
 use Rattle.walks.specs.Below.{pick, all_below, every}
 use Rattle.walks.proofs.Tests.{and_left, and_right, or_cases, is_true, of_true, all_of, part}
 use Rattle.rack.specs.Bytes.{byte, at_most, rising, list_at, list_end, ListIs}
 use Rattle.rack.specs.Bytes as bytes
-use Rattle.rack.specs.Marks.{mark_found, number_of, can_follow}
+use Rattle.rack.specs.Marks.{mark_found, can_follow}
 use Rattle.rack.specs.Records.{NetIs, net_end, ArcsIs, PrIs, PairRises, QfIs, bounds, qf_end, LgIs, observed}
-use Rattle.rack.specs.Layout.{FieldsAre, end_at, added, case_of_zeros, whole, Reads, done, next, ReadsAs}
+use Rattle.rack.specs.Layout.{FieldsAre, end_at, added, RecordIs, case_of_zeros, whole, Reads, done, next, ReadsAs}
 use Rattle.rack.specs.declared.Case.{Case}
 use Rattle.rack.specs.declared.Pairs.{Pairs}
 use Rattle.rack.specs.declared.Mark.{Mark}
-use Rattle.rack.specs.declared.Mark.TheVariants.{Nt, Tr, Pr, Ob, Pt, Px, Qf, Lg, En, Absent}
+use Rattle.rack.specs.declared.Mark.TheVariants.{Nt, Tr, Pr, Ob, Pt, Px, Qf, Lg, En}
 
 unfoldable pub list_tests : ℕ → List ℕ → ℕ → List Bool
 list_tests b f a = ltb a (length f) ∷ leb (list_end f a) (length f) ∷ rising 0 b (list_at f a) ∷ []
@@ -134,7 +133,6 @@ fields_test Px c f a = all_of (arcs_tests 16 c.pattern.places c.links.count f a)
 fields_test Qf c f a = all_of (qf_tests c.pattern.places c.pattern.cap c.bounds.count f a)
 fields_test Lg c f a = all_of (lg_tests c.observable.flags f a)
 fields_test En c f a = true
-fields_test Absent c f a = false
 
 fields_of : (m : Mark) (c : Case) (f : List ℕ) (a : ℕ) → T (fields_test m c f a) → FieldsAre m c f a
 unfolding fields_test
@@ -147,48 +145,81 @@ fields_of Px c f a t = arcs_of t
 fields_of Qf c f a t = qf_of t
 fields_of Lg c f a t = lg_of t
 fields_of En c f a t = tt
-fields_of Absent c f a t = t
+
+-- EN has come
+abbrev pub en_came : Option Mark → Bool
+en_came (Some En) = true
+en_came _ = false
+
+came : (k : Option Mark) → T (en_came k) → k ≡ Some En
+came None t = absurd t
+came (Some Nt) t = absurd t
+came (Some Tr) t = absurd t
+came (Some Pr) t = absurd t
+came (Some Ob) t = absurd t
+came (Some Pt) t = absurd t
+came (Some Px) t = absurd t
+came (Some Qf) t = absurd t
+came (Some Lg) t = absurd t
+came (Some En) t = refl
+
+-- what the rest gives, where a right record of the mark that was found stands
+unfoldable pub after_right : Option Mark → Option Mark → Case → List ℕ → ℕ → (Mark → Option Case) → Option Case
+after_right None k c f a rest = None
+after_right (Some m) k c f a rest = let r = rest m in pick (can_follow k m && fields_test m c f a) r None
 
 -- reading on, with the first number as a bound on the records
-unfoldable pub parse : ℕ → List ℕ → ℕ → Case → ℕ → Option Case
-parse zero f k c a = none
+unfoldable pub parse : ℕ → List ℕ → Option Mark → Case → ℕ → Option Case
+parse zero f k c a = None
 parse (suc n) f k c a =
-    let m = mark_found f a in
-    let rest = parse n f (number_of m) (added m c f a) (end_at m c f a) in
-    pick (eqb k 8 && eqb a (length f)) (some c) (pick (can_follow k (number_of m) && fields_test m c f a) rest none)
+    let r = after_right (mark_found f a) k c f a (λ m. parse n f (Some m) (added m c f a) (end_at m c f a)) in
+    pick (en_came k && eqb a (length f)) (Some c) r
 
-same_some : {c e : Case} → ◌≡◌ {A = Option Case} (some c) (some e) → c ≡ e
+same_some : {c e : Case} → ◌≡◌ {A = Option Case} (Some c) (Some e) → c ≡ e
 same_some q = cc
 
-never_some : {e : Case} → ◌≡◌ {A = Option Case} none (some e) → ⊥
-never_some q = let z : ◌≡◌ {A = ℕ} 0 1 = cc in omega arith
+-- a right record stands there, and the rest gives e
+record Onward (f : List ℕ) (k : Option Mark) (c : Case) (a : ℕ) (rest : Mark → Option Case) (e : Case) : Type 0 where
+  mark : Mark
+  right : RecordIs k c f a mark
+  then : rest mark ≡ Some e
 
-parse_reads : (n : ℕ) (f : List ℕ) (k : ℕ) (c : Case) (a : ℕ) (e : Case) → parse n f k c a ≡ some e → Reads f k c a (whole e)
-unfolding parse
-parse_reads zero f k c a e q = absurd (never_some q)
-parse_reads (suc n) f k c a e q =
-    go (eqb k 8 && eqb a (length f)) refl (can_follow k (number_of (mark_found f a)) && fields_test (mark_found f a) c f a) refl
-    (parse_reads n f (number_of (mark_found f a)) (added (mark_found f a) c f a) (end_at (mark_found f a) c f a) e) q
+onward : (f : List ℕ) (k : Option Mark) (c : Case) (a : ℕ) (rest : Mark → Option Case) (e : Case) (o : Option Mark) → mark_found f a ≡ o
+    → after_right o k c f a rest ≡ Some e → Onward f k c a rest e
+unfolding after_right
+onward f k c a rest e None found q = cc
+onward f k c a rest e (Some m) found q = go (can_follow k m && fields_test m c f a) refl q
   where
-    rest : Option Case
-    rest = parse n f (number_of (mark_found f a)) (added (mark_found f a) c f a) (end_at (mark_found f a) c f a)
+    go : (b : Bool) → (can_follow k m && fields_test m c f a) ≡ b → pick b (rest m) None ≡ Some e → Onward f k c a rest e
+    go true y q =
+        let t = of_true (can_follow k m && fields_test m c f a) y in
+        record {
+          mark = m;
+          right = record {
+            found = found;
+            follows = is_true _ (and_left (can_follow k m) (fields_test m c f a) t);
+            fields = fields_of m c f a (and_right (can_follow k m) (fields_test m c f a) t);
+          };
+          then = q;
+        }
+    go false y q = cc
 
-    go : (b : Bool) → (eqb k 8 && eqb a (length f)) ≡ b → (d : Bool) → (can_follow k (number_of (mark_found f a)) && fields_test (mark_found f a) c f a) ≡ d
-        → (rest ≡ some e → Reads f (number_of (mark_found f a)) (added (mark_found f a) c f a) (end_at (mark_found f a) c f a) (whole e))
-        → pick b (some c) (pick d rest none) ≡ some e → Reads f k c a (whole e)
-    go true x d y rec q =
-        let t = of_true (eqb k 8 && eqb a (length f)) x in
-        subst (λ (u : Case). Reads f k c a (whole u)) (same_some q) (done (eqb→eq k 8 (and_left (eqb k 8) (eqb a (length f)) t)) (eqb→eq a (length f) (and_right (eqb k 8) (eqb a (length f)) t)))
-    go false x true y rec q =
-        let t = of_true (can_follow k (number_of (mark_found f a)) && fields_test (mark_found f a) c f a) y in
-        next
-        (record {
-          follows = is_true _ (and_left (can_follow k (number_of (mark_found f a))) (fields_test (mark_found f a) c f a) t);
-          fields = fields_of (mark_found f a) c f a (and_right (can_follow k (number_of (mark_found f a))) (fields_test (mark_found f a) c f a) t);
-        })
-        (rec q)
-    go false x false y rec q = absurd (never_some q)
+parse_reads : (n : ℕ) (f : List ℕ) (k : Option Mark) (c : Case) (a : ℕ) (e : Case) → parse n f k c a ≡ Some e → Reads f k c a (whole e)
+unfolding parse
+parse_reads zero f k c a e q = cc
+parse_reads (suc n) f k c a e q =
+    go (en_came k && eqb a (length f)) refl (λ m. parse_reads n f (Some m) (added m c f a) (end_at m c f a) e) q
+  where
+    go : (b : Bool) → (en_came k && eqb a (length f)) ≡ b
+        → ((m : Mark) → parse n f (Some m) (added m c f a) (end_at m c f a) ≡ Some e → Reads f (Some m) (added m c f a) (end_at m c f a) (whole e))
+        → pick b (Some c) (after_right (mark_found f a) k c f a (λ m. parse n f (Some m) (added m c f a) (end_at m c f a))) ≡ Some e → Reads f k c a (whole e)
+    go true x rec q =
+        let t = of_true (en_came k && eqb a (length f)) x in
+        subst (λ (u : Case). Reads f k c a (whole u)) (same_some q) (done (came k (and_left (en_came k) (eqb a (length f)) t)) (eqb→eq a (length f) (and_right (en_came k) (eqb a (length f)) t)))
+    go false x rec q =
+        let o = onward f k c a (λ m. parse n f (Some m) (added m c f a) (end_at m c f a)) e (mark_found f a) refl q in
+        next o.right (rec o.mark o.then)
 
 -- what is parsed is read
-pub parsed : {f : List ℕ} {c : Case} → parse 200 f 9 case_of_zeros 0 ≡ some c → ReadsAs f c
-parsed {f} {c} q = record { reads = parse_reads 200 f 9 case_of_zeros 0 c q }
+pub parsed : {f : List ℕ} {c : Case} → parse 200 f None case_of_zeros 0 ≡ Some c → ReadsAs f c
+parsed {f} {c} q = record { reads = parse_reads 200 f None case_of_zeros 0 c q }

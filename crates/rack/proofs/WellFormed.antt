@@ -1,16 +1,17 @@
 -- Every case that a file reads as is well formed: its lists have their lengths, its numbers keep their limits, and what it does not use is
 -- zero. By induction over the records, with facts that each kind of record keeps. Assumes nothing.
-use Prim.Native.Nat.{ℕ, suc, ◌+◌, ◌≤◌, ◌<◌}
-use mathlib.Core.Path.{◌≡◌, refl, subst}
+use Prim.Native.Nat.{ℕ, zero, suc, ◌+◌, ◌*◌, ◌≤◌, ◌<◌}
+use mathlib.Core.Path.{◌≡◌, refl, sym, ◌∙◌, subst}
 use mathlib.Core.Bool.{Bool, true, ◌&&◌}
 use mathlib.Core.List.{List}
 use native.Mathlib.Omega.{arith}
-use lib.ListN.{length, length-replicate}
+use lib.ListN.{length, get_or, length-replicate}
 use lib.Seq.{length-take-le}
 use lib.Dec.{T, leb, eqb, leb→le}
-use Rattle.walks.specs.Below.{pick, implies, all_below}
+use Rattle.std.proofs.Common.{Option, Some, None}
+use Rattle.walks.specs.Below.{implies, all_below}
 use Rattle.walks.proofs.Tests.{and_left, and_right, given, of_true, below_at}
-use Rattle.rack.specs.Marks.{mark_found, number_of, follows, can_follow}
+use Rattle.rack.specs.Marks.{number_of, follows, can_follow}
 use Rattle.rack.specs.Records.{nt_says, pt_says, tr_says, px_says, pr_says, ob_says, qf_says, lg_says}
 use Rattle.rack.specs.Layout.{FieldsAre, added, case_of_zeros, Ending, whole, broken, Reads, done, wrong, next, ReadsAs}
 use Rattle.rack.specs.Run.{log_of}
@@ -23,15 +24,25 @@ use Rattle.rack.specs.declared.Bounds.{Bounds}
 use Rattle.rack.specs.declared.Log.{Log}
 use Rattle.rack.specs.declared.Case.{Case}
 use Rattle.rack.specs.declared.Mark.{Mark}
-use Rattle.rack.specs.declared.Mark.TheVariants.{Nt, Tr, Pr, Ob, Pt, Px, Qf, Lg, En, Absent}
+use Rattle.rack.specs.declared.Mark.TheVariants.{Nt, Tr, Pr, Ob, Pt, Px, Qf, Lg, En}
 use Rattle.rack.proofs.WellFormedLists.{zeros}
 use Rattle.rack.proofs.WellFormedKinds.{slots_none, rows_none, net_fits, arcs_none, arcs_unused, arcs_more, pairs_more, pairs_wider, flags_fit, bounds_unused, bounds_more, log_unused, log_fits}
 
 -- ---- how far a reading has come
 
 -- 0 before the first record; then 1 after NT, 2 after TR, up to 9 after EN
-unfoldable pub stage : ℕ → ℕ
-stage k = pick (eqb k 9) 0 (suc k)
+abbrev pub stage : Option Mark → ℕ
+stage None = 0
+stage (Some k) = suc (number_of k)
+
+-- the table by stages: the kind of number m may come at the stage s
+abbrev pub comes : ℕ → ℕ → Bool
+comes zero m = eqb m 0
+comes (suc k) m = eqb (get_or follows (k * 9 + m) 0) 1
+
+pub by_stage : (k : Option Mark) (m : Mark) → can_follow k m ≡ comes (stage k) (number_of m)
+by_stage None m = refl
+by_stage (Some k) m = refl
 
 -- the first stage and the last at which a record of mark m may come
 abbrev pub earliest : Mark → ℕ
@@ -44,7 +55,6 @@ earliest Px = 5
 earliest Qf = 5
 earliest Lg = 7
 earliest En = 8
-earliest Absent = 1
 
 abbrev pub latest : Mark → ℕ
 latest Nt = 0
@@ -56,14 +66,13 @@ latest Px = 6
 latest Qf = 7
 latest Lg = 7
 latest En = 8
-latest Absent = 0
 
 timely : Mark → ℕ → Bool
-timely m k = implies (can_follow k (number_of m)) (leb (earliest m) (stage k) && leb (stage k) (latest m))
+timely m s = implies (comes s (number_of m)) (leb (earliest m) s && leb s (latest m))
 
 -- so says the table of marks, by computing it
 table : (m : Mark) → T (all_below 10 (timely m))
-unfolding follows timely stage all_below
+unfolding follows timely all_below
 table Nt = tt
 table Tr = tt
 table Pr = tt
@@ -73,22 +82,13 @@ table Px = tt
 table Qf = tt
 table Lg = tt
 table En = tt
-table Absent = tt
 
 -- a record of mark m comes at its time
 pub record Timely (m : Mark) (s : ℕ) : Type 0 where
   pub low : earliest m ≤ s
   pub high : s ≤ latest m
 
-pub in_time : (m : Mark) (k : ℕ) → k < 10 → can_follow k (number_of m) ≡ true → Timely m (stage k)
-unfolding timely
-in_time m k h e =
-    let l = leb (earliest m) (stage k) in
-    let r = leb (stage k) (latest m) in
-    let t : T (l && r) = given (can_follow k (number_of m)) (l && r) (below_at 10 (timely m) (table m) k h) (of_true (can_follow k (number_of m)) e) in
-    record { low = leb→le (earliest m) (stage k) (and_left l r t); high = leb→le (stage k) (latest m) (and_right l r t) }
-
-number_small : (m : Mark) → number_of m < 10
+pub number_small : (m : Mark) → number_of m < 9
 number_small Nt = omega arith
 number_small Tr = omega arith
 number_small Pr = omega arith
@@ -98,7 +98,19 @@ number_small Px = omega arith
 number_small Qf = omega arith
 number_small Lg = omega arith
 number_small En = omega arith
-number_small Absent = omega arith
+
+pub stage_small : (k : Option Mark) → stage k < 10
+stage_small None = omega arith
+stage_small (Some k) = omega (arith, number_small k)
+
+pub in_time : (m : Mark) (k : Option Mark) → can_follow k m ≡ true → Timely m (stage k)
+unfolding timely
+in_time m k e =
+    let s = stage k in
+    let l = leb (earliest m) s in
+    let r = leb s (latest m) in
+    let t : T (l && r) = given (comes s (number_of m)) (l && r) (below_at 10 (timely m) (table m) s (stage_small k)) (of_true (comes s (number_of m)) (sym (by_stage k m) ∙ e)) in
+    record { low = leb→le (earliest m) s (and_left l r t); high = leb→le s (latest m) (and_right l r t) }
 
 -- ---- what a reading keeps, at the stage s; a kind that is still to come has left no numbers
 
@@ -183,8 +195,8 @@ module _ {s : ℕ} (s' : ℕ) where
   log_waits g k = record { flags = k.flags; log = k.log; no_log = λ _. k.no_log g }
 
 -- a right record of any kind keeps all of it
-pub keeps : (m : Mark) (f : List ℕ) (s : ℕ) (c : Case) (a : ℕ) → Timely m s → FieldsAre m c f a → Kept s c → Kept (stage (number_of m)) (added m c f a)
-unfolding stage nt_says pt_says tr_says px_says pr_says ob_says qf_says lg_says
+pub keeps : (m : Mark) (f : List ℕ) (s : ℕ) (c : Case) (a : ℕ) → Timely m s → FieldsAre m c f a → Kept s c → Kept (stage (Some m)) (added m c f a)
+unfolding nt_says pt_says tr_says px_says pr_says ob_says qf_says lg_says
 keeps Nt f s c a t w k =
     record {
       system = record {
@@ -279,7 +291,6 @@ keeps En f s c a t w k =
       pattern = pattern_stays 9 (omega (arith, t.low)) (omega arith) k.pattern;
       seen = record { flags = k.seen.flags; log = k.seen.log; no_log = λ h. absurd (omega arith) };
     }
-keeps Absent f s c a t w k = absurd w
 
 -- ---- the law
 
@@ -303,17 +314,14 @@ abbrev Told : Ending → Type 0
 Told (whole c) = WellFormed c
 Told (broken p) = Unit {0}
 
-reads_kept : {f : List ℕ} {k : ℕ} {c : Case} {a : ℕ} {e : Ending} → Reads f k c a e → k < 10 → Kept (stage k) c → Told e
-unfolding stage
-reads_kept (done {c = c} e _) h s = at_the_end (subst (λ (j : ℕ). Kept (stage j) c) e s)
-reads_kept (wrong _ _) h s = tt
-reads_kept {f} (next {k = k} {a = a} {c = c} w r) h s =
-    reads_kept r (number_small (mark_found f a)) (keeps (mark_found f a) f (stage k) c a (in_time (mark_found f a) k h w.follows) w.fields s)
+reads_kept : {f : List ℕ} {k : Option Mark} {c : Case} {a : ℕ} {e : Ending} → Reads f k c a e → Kept (stage k) c → Told e
+reads_kept (done {c = c} e _) s = at_the_end (subst (λ (j : Option Mark). Kept (stage j) c) e s)
+reads_kept (wrong _ _) s = tt
+reads_kept {f} (next {k = k} {a = a} {c = c} {m = m} w r) s = reads_kept r (keeps m f (stage k) c a (in_time m k w.follows) w.fields s)
 
 -- every case that a file reads as is well formed
 pub well_formed : {f : List ℕ} {c : Case} → ReadsAs f c → WellFormed c
-unfolding stage
-well_formed r = reads_kept r.reads (omega arith) start_kept
+well_formed r = reads_kept r.reads start_kept
 
 -- the log of a well formed case is as long as its count says
 pub log_long : {c : Case} → WellFormed c → length (log_of c) ≡ c.log.count

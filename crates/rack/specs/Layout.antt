@@ -1,11 +1,11 @@
 -- The case file's layout: which bytes read as which case, and where the first wrong record stands otherwise.
 -- Assumes nothing.
-use Rattle.std.specs.Prelude.{ℕ, ◌+◌, ◌≡◌, true, List, length, replicate}
-use Rattle.rack.specs.Marks.{mark_found, number_of, can_follow}
+use Rattle.std.specs.Prelude.{ℕ, ◌+◌, ◌≡◌, true, List, Option, Some, None, length, replicate}
+use Rattle.rack.specs.Marks.{mark_found, can_follow}
 use Rattle.rack.specs.Records.{NetIs, net_end, nt_says, pt_says, ArcsIs, arcs_end, tr_says, px_says, PrIs, pr_end, pr_says, ObIs, ob_end, ob_says, QfIs, qf_end, qf_says, LgIs, lg_end, lg_says}
 use Rattle.rack.specs.declared.Case.{Case}
 use Rattle.rack.specs.declared.Mark.{Mark}
-use Rattle.rack.specs.declared.Mark.TheVariants.{Nt, Tr, Pr, Ob, Pt, Px, Qf, Lg, En, Absent}
+use Rattle.rack.specs.declared.Mark.TheVariants.{Nt, Tr, Pr, Ob, Pt, Px, Qf, Lg, En}
 
 -- "A refused read gives the case of all zeros."
 unfoldable pub case_of_zeros : Case
@@ -32,7 +32,6 @@ FieldsAre Px c f a = ArcsIs 16 c.pattern.places c.links.count f a
 FieldsAre Qf c f a = QfIs c.pattern.places c.pattern.cap c.bounds.count f a
 FieldsAre Lg c f a = LgIs c.observable.flags f a
 FieldsAre En c f a = Unit {0}
-FieldsAre Absent c f a = ⊥
 
 -- where it ends
 abbrev pub end_at : Mark → Case → List ℕ → ℕ → ℕ
@@ -45,7 +44,6 @@ end_at Px c f a = arcs_end f a
 end_at Qf c f a = qf_end c.pattern.places a
 end_at Lg c f a = lg_end f a
 end_at En c f a = a + 2
-end_at Absent c f a = a
 
 -- the case with what it says
 abbrev pub added : Mark → Case → List ℕ → ℕ → Case
@@ -58,34 +56,34 @@ added Px c f a = record { net = c.net; arcs = c.arcs; pairs = c.pairs; observabl
 added Qf c f a = record { net = c.net; arcs = c.arcs; pairs = c.pairs; observable = c.observable; pattern = c.pattern; links = c.links; bounds = qf_says c.pattern.places c.bounds f a; log = c.log }
 added Lg c f a = record { net = c.net; arcs = c.arcs; pairs = c.pairs; observable = c.observable; pattern = c.pattern; links = c.links; bounds = c.bounds; log = lg_says f a }
 added En c f a = c
-added Absent c f a = c
 
--- a right record stands at a, after one of number k
-pub record RecordIs (k : ℕ) (c : Case) (f : List ℕ) (a : ℕ) : Type 0 where
-  pub follows : can_follow k (number_of (mark_found f a)) ≡ true
-  pub fields : FieldsAre (mark_found f a) c f a
+-- a right record of mark m stands at a, after one of mark k (None: after none)
+pub record RecordIs (k : Option Mark) (c : Case) (f : List ℕ) (a : ℕ) (m : Mark) : Type 0 where
+  pub found : mark_found f a ≡ Some m
+  pub follows : can_follow k m ≡ true
+  pub fields : FieldsAre m c f a
 
 -- how a reading ends
 pub data Ending : Type 0 where
   whole : Case → Ending
   broken : ℕ → Ending
 
--- "Reading goes from the left; the first wrong record ends the reading with refusal 2." Reading f at a, after a record of number k, with
--- the case c so far:
+-- "Reading goes from the left; the first wrong record ends the reading with refusal 2." Reading f at a, after a record of mark k (None: after
+-- none), with the case c so far:
 -- done: EN has come, and "nothing follows EN"
 -- wrong: no right record stands at a. "Its place is the offset of that record's mark: where a mark can't stand there, a record is cut,
 --   one too many, or holds a bad field. If the file stops where a record is due, the place is the file's length. After EN it is the first
 --   byte left over."
 -- next: a right record, and then the rest
-pub data Reads (f : List ℕ) : ℕ → Case → ℕ → Ending → Type 0 where
-  done : {k a : ℕ} {c : Case} → k ≡ number_of En → a ≡ length f → Reads f k c a (whole c)
-  wrong : {k a : ℕ} {c : Case} → (RecordIs k c f a → ⊥) → (k ≡ number_of En → a ≡ length f → ⊥) → Reads f k c a (broken a)
-  next : {k a : ℕ} {c : Case} {e : Ending} → RecordIs k c f a
-      → Reads f (number_of (mark_found f a)) (added (mark_found f a) c f a) (end_at (mark_found f a) c f a) e → Reads f k c a e
+pub data Reads (f : List ℕ) : Option Mark → Case → ℕ → Ending → Type 0 where
+  done : {k : Option Mark} {a : ℕ} {c : Case} → k ≡ Some En → a ≡ length f → Reads f k c a (whole c)
+  wrong : {k : Option Mark} {a : ℕ} {c : Case} → ((m : Mark) → RecordIs k c f a m → ⊥) → (k ≡ Some En → a ≡ length f → ⊥) → Reads f k c a (broken a)
+  next : {k : Option Mark} {a : ℕ} {c : Case} {e : Ending} {m : Mark} → RecordIs k c f a m
+      → Reads f (Some m) (added m c f a) (end_at m c f a) e → Reads f k c a e
 
 -- the whole file, from its start: no record has come
 abbrev pub ReadAs : List ℕ → Ending → Type 0
-ReadAs f e = Reads f (number_of Absent) case_of_zeros 0 e
+ReadAs f e = Reads f None case_of_zeros 0 e
 
 -- the file f is well formed and reads as the case c
 pub record ReadsAs (f : List ℕ) (c : Case) : Type 0 where

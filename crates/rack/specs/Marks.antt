@@ -1,26 +1,26 @@
 -- The nine marks, and which may follow which.
 -- Assumes nothing.
-use Rattle.std.specs.Prelude.{ℕ, ◌+◌, ◌*◌, Bool, ◌&&◌, List, [], ◌∷◌, length, get_or, ltb, leb, eqb}
+use Rattle.std.specs.Prelude.{ℕ, ◌+◌, ◌*◌, Bool, List, [], ◌∷◌, Option, Some, None, length, get_or, leb, eqb}
 use Rattle.walks.specs.Below.{pick}
 use Rattle.rack.specs.Bytes.{byte}
 use Rattle.rack.specs.declared.Mark.{Mark}
-use Rattle.rack.specs.declared.Mark.TheVariants.{Nt, Tr, Pr, Ob, Pt, Px, Qf, Lg, En, Absent}
+use Rattle.rack.specs.declared.Mark.TheVariants.{Nt, Tr, Pr, Ob, Pt, Px, Qf, Lg, En}
 
 -- "A record is a two-byte mark, given as two ASCII letters": the kind that the bytes x and y are the mark of
-unfoldable pub mark_of : ℕ → ℕ → Mark
+unfoldable pub mark_of : ℕ → ℕ → Option Mark
 mark_of x y =
-    pick (eqb x 78) (pick (eqb y 84) Nt Absent)
-    (pick (eqb x 84) (pick (eqb y 82) Tr Absent)
-    (pick (eqb x 80) (pick (eqb y 82) Pr (pick (eqb y 84) Pt (pick (eqb y 88) Px Absent)))
-    (pick (eqb x 79) (pick (eqb y 66) Ob Absent)
-    (pick (eqb x 81) (pick (eqb y 70) Qf Absent)
-    (pick (eqb x 76) (pick (eqb y 71) Lg Absent)
-    (pick (eqb x 69) (pick (eqb y 78) En Absent)
-    Absent))))))
+    pick (eqb x 78) (pick (eqb y 84) (Some Nt) None)
+    (pick (eqb x 84) (pick (eqb y 82) (Some Tr) None)
+    (pick (eqb x 80) (pick (eqb y 82) (Some Pr) (pick (eqb y 84) (Some Pt) (pick (eqb y 88) (Some Px) None)))
+    (pick (eqb x 79) (pick (eqb y 66) (Some Ob) None)
+    (pick (eqb x 81) (pick (eqb y 70) (Some Qf) None)
+    (pick (eqb x 76) (pick (eqb y 71) (Some Lg) None)
+    (pick (eqb x 69) (pick (eqb y 78) (Some En) None)
+    None))))))
 
--- the mark that stands at a, if two bytes are left and they are one
-abbrev pub mark_found : List ℕ → ℕ → Mark
-mark_found f a = pick (leb (a + 2) (length f)) (mark_of (byte f a) (byte f (a + 1))) Absent
+-- the mark that stands at a, if two bytes are left and they are one; None: no mark stands there
+abbrev pub mark_found : List ℕ → ℕ → Option Mark
+mark_found f a = pick (leb (a + 2) (length f)) (mark_of (byte f a) (byte f (a + 1))) None
 
 -- a kind's row and column in the table
 abbrev pub number_of : Mark → ℕ
@@ -33,7 +33,6 @@ number_of Px = 5
 number_of Qf = 6
 number_of Lg = 7
 number_of En = 8
-number_of Absent = 9
 
 -- "Records come in the table's order, and which mark may follow which is a fixed table."
 -- A row for each kind, a column for each kind that may come next: NT TR PR OB PT PX QF LG EN.
@@ -50,6 +49,7 @@ follows =
     ∷ 0 ∷ 0 ∷ 0 ∷ 0 ∷ 0 ∷ 0 ∷ 0 ∷ 0 ∷ 0
     ∷ []
 
--- a mark of number m may stand after one of number k; before the first record no mark stands (number 9), and NT comes first
-abbrev pub can_follow : ℕ → ℕ → Bool
-can_follow k m = pick (eqb k 9) (eqb m 0) (ltb m 9 && eqb (get_or follows (k * 9 + m) 0) 1)
+-- the mark m may stand after the mark k; before the first record no mark stands (None), and NT comes first
+abbrev pub can_follow : Option Mark → Mark → Bool
+can_follow None m = eqb (number_of m) 0
+can_follow (Some k) m = eqb (get_or follows (number_of k * 9 + number_of m) 0) 1

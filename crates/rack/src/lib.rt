@@ -5,6 +5,7 @@
 #![tactic(auto)]
 
 ghost use Rattle.std.specs.Prelude.{◌≡◌, ◌<◌};
+ghost use Rattle.rack.specs.Marks as marks;
 ghost use Rattle.rack.specs.Refused.{number_of, beside_of};
 
 // The refusal numbers, as `number` in specs/Refusal.antt has them.
@@ -123,7 +124,7 @@ pub struct SystemTransition(pub usize);
 #[derive(Clone, Copy, Debug, PartialEq, Eq)]
 pub struct PatternTransition(pub usize);
 
-// The kind of a record, by its mark. Absent: no mark stands there.
+// The kind of a record, by its mark.
 #[derive(Clone, Copy, Debug, PartialEq, Eq)]
 pub enum Mark {
     Nt,
@@ -135,7 +136,15 @@ pub enum Mark {
     Qf,
     Lg,
     En,
-    Absent,
+}
+
+impl Mark {
+    // Its row and its column in the table of marks.
+    pub fn number(self) -> usize
+        ensures { result ≡ marks.number_of self }
+    {
+        self as usize
+    }
 }
 
 // The checks, each with what stands beside its number where that is not 0: the place of the first wrong record, the length that is needed.

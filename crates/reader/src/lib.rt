@@ -6,10 +6,12 @@
 
 ghost use Rattle.std.specs.Prelude.{◌≡◌};
 ghost use Rattle.rack.specs.CaseFileOutcome.{ReaderIs, LogIs};
+ghost use Rattle.rack.specs.Layout.{FieldsAre, added};
 ghost use Rattle.reader.specs.Answer.{refusal};
+ghost use Rattle.reader.specs.RowsFit.{RowsFit};
 
-use rack::{Mark, Outcome, REFUSED_LAYOUT, Reading, wide};
-use records::{EN, Misplaced, NO_MARK, mark_at, may_follow, number_of, read_record};
+use rack::{Case, Mark, Outcome, REFUSED_LAYOUT, Reading, wide};
+use records::{Misplaced, mark_at, may_follow, read_record};
 use slots::{add_lg, add_nt, add_ob, add_pr, add_pt, add_px, add_qf, add_tr, zero_case};
 
 // Refusal 2 at a place, with the case of all zeros.
@@ -22,37 +24,44 @@ fn refused(place: usize) -> Reading
     }
 }
 
-// Reads a file from the left, a record at a time: the case that it holds, or refusal 2 with the place of the first wrong record. Each record changes
-// its own part of the case where it stands: nothing hands the whole case on, which would keep a copy of it.
+// Adds to the case what a right record says. Each record changes its own part of the case where it stands: nothing hands the whole case
+// on, which would keep a copy of it.
+fn add(case: &mut Case, mark: Mark, file: &[u8], at: usize)
+    requires fields { FieldsAre mark case.old file.now at }
+    requires rows { RowsFit case.old }
+    ensures { case.new ≡ added mark case.old file.now at }
+{
+    match mark {
+        Mark::Nt => case.net = add_nt(file, at),
+        Mark::Tr => case.arcs = add_tr(case.arcs, file, at),
+        Mark::Pr => case.pairs = add_pr(case.pairs, file, at),
+        Mark::Ob => case.observable = add_ob(file, at),
+        Mark::Pt => case.pattern = add_pt(file, at),
+        Mark::Px => case.links = add_px(case.links, file, at),
+        Mark::Qf => case.bounds = add_qf(case.bounds, file, at, case.pattern.places),
+        Mark::Lg => case.log = add_lg(file, at),
+        Mark::En => {}
+    }
+}
+
+// Reads a file from the left, a record at a time: the case that it holds, or refusal 2 with the place of the first wrong record.
 pub fn read_case(file: &[u8]) -> Reading
     ensures { ReaderIs file.now result }
 {
     let mut case = zero_case();
-    let mut last = NO_MARK;
-    let mut at: usize = 0;
-    while last != EN {
-        let mark = mark_at(file, at);
-        let next = number_of(mark);
-        if !may_follow(last, next) {
-            return refused(at);
-        }
+    let mut last = None;
+    let mut at = 0;
+    while last != Some(Mark::En) {
+        let mark = match mark_at(file, at) {
+            Some(mark) if may_follow(last, mark) => mark,
+            _ => return refused(at),
+        };
         let end = match read_record(file, at, mark, case) {
             Ok(end) => end,
             Err(Misplaced { place }) => return refused(place),
         };
-        match mark {
-            Mark::Nt => case.net = add_nt(file, at),
-            Mark::Tr => case.arcs = add_tr(case.arcs, file, at),
-            Mark::Pr => case.pairs = add_pr(case.pairs, file, at),
-            Mark::Ob => case.observable = add_ob(file, at),
-            Mark::Pt => case.pattern = add_pt(file, at),
-            Mark::Px => case.links = add_px(case.links, file, at),
-            Mark::Qf => case.bounds = add_qf(case.bounds, file, at, case.pattern.places),
-            Mark::Lg => case.log = add_lg(file, at),
-            Mark::En => {}
-            Mark::Absent => {}
-        }
-        last = next;
+        add(&mut case, mark, file, at);
+        last = Some(mark);
         at = end;
     }
     if at < file.len() {
@@ -60,7 +69,7 @@ pub fn read_case(file: &[u8]) -> Reading
     }
     Reading {
         outcome: Outcome::Whole,
-        case: case,
+        case,
     }
 }
 

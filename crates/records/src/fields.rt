@@ -114,6 +114,5 @@ pub fn read_record(file: &[u8], at: usize, mark: Mark, case: Case) -> Result<usi
         ),
         Mark::Lg => read_lg(file, at, &case.observable.flags),
         Mark::En => Ok(at + 2),
-        Mark::Absent => Err(Misplaced { place: at }),
     }
 }

@@ -8,7 +8,7 @@ mod marks;
 mod stretch;
 
 pub use fields::read_record;
-pub use marks::{EN, NO_MARK, mark_at, may_follow, number_of};
+pub use marks::{mark_at, may_follow};
 
 // What refuses a file: a record that is wrong, at the refusal's place.
 #[derive(Clone, Copy, Debug, PartialEq, Eq)]

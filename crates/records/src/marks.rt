@@ -1,105 +1,53 @@
 // Marks: which one stands at an offset of a file, and which may follow which.
-ghost use Rattle.std.specs.Prelude.{◌≡◌, ◌≤◌, ◌<◌, length, eqb};
-ghost use Rattle.walks.specs.Below.{pick};
-ghost use Rattle.rack.specs.Marks.{mark_of, mark_found, number_of, can_follow};
+ghost use Rattle.std.specs.Prelude.{◌≡◌, ◌≤◌, length};
+ghost use Rattle.rack.specs.Marks.{mark_found, can_follow};
 
 use rack::Mark;
 
-// The number of EN, and the number that stands for no mark: none has come before the first record.
-pub const EN: usize = 8;
+// The table's entries: the kind of the column may come next, or it may not.
+const YES: bool = true;
 
-pub const NO_MARK: usize = 9;
+const NO: bool = false;
 
 // "Which mark may follow which is a fixed table": a row for each kind, a column for each kind that may come next.
-const FOLLOWS: [[u8; 9]; 9] = [
-    [0, 1, 1, 1, 0, 0, 0, 0, 0], // NT
-    [0, 1, 1, 1, 0, 0, 0, 0, 0], // TR
-    [0, 0, 1, 1, 0, 0, 0, 0, 0], // PR
-    [0, 0, 0, 0, 1, 0, 0, 0, 0], // OB
-    [0, 0, 0, 0, 0, 1, 1, 0, 0], // PT
-    [0, 0, 0, 0, 0, 1, 1, 0, 0], // PX
-    [0, 0, 0, 0, 0, 0, 1, 1, 0], // QF
-    [0, 0, 0, 0, 0, 0, 0, 0, 1], // LG
-    [0, 0, 0, 0, 0, 0, 0, 0, 0], // EN
+const FOLLOWS: [[bool; 9]; 9] = [
+    [NO, YES, YES, YES, NO, NO, NO, NO, NO], // NT
+    [NO, YES, YES, YES, NO, NO, NO, NO, NO], // TR
+    [NO, NO, YES, YES, NO, NO, NO, NO, NO], // PR
+    [NO, NO, NO, NO, YES, NO, NO, NO, NO], // OB
+    [NO, NO, NO, NO, NO, YES, YES, NO, NO], // PT
+    [NO, NO, NO, NO, NO, YES, YES, NO, NO], // PX
+    [NO, NO, NO, NO, NO, NO, YES, YES, NO], // QF
+    [NO, NO, NO, NO, NO, NO, NO, NO, YES], // LG
+    [NO, NO, NO, NO, NO, NO, NO, NO, NO], // EN
 ];
 
-// The mark, if the letter is the second one that it has; else none.
-fn with_second(letter: u8, second: u8, mark: Mark) -> Mark
-    ensures { result ≡ pick (eqb letter second) mark Mark.Absent }
-{
-    if letter == second {
-        return mark;
-    }
-    Mark::Absent
-}
-
-// The mark of P and a second letter.
-fn mark_of_p(y: u8) -> Mark
-    ensures { result ≡ mark_of 80 y }
-{
-    match y {
-        b'R' => Mark::Pr,
-        b'T' => Mark::Pt,
-        b'X' => Mark::Px,
-        _ => Mark::Absent,
-    }
-}
-
-// The mark that two letters are.
-fn mark_of(x: u8, y: u8) -> Mark
-    ensures { result ≡ mark_of x y }
-{
-    match x {
-        b'N' => with_second(y, b'T', Mark::Nt),
-        b'T' => with_second(y, b'R', Mark::Tr),
-        b'P' => mark_of_p(y),
-        b'O' => with_second(y, b'B', Mark::Ob),
-        b'Q' => with_second(y, b'F', Mark::Qf),
-        b'L' => with_second(y, b'G', Mark::Lg),
-        b'E' => with_second(y, b'N', Mark::En),
-        _ => Mark::Absent,
-    }
-}
-
-// The mark that stands at `at`.
-pub fn mark_at(file: &[u8], at: usize) -> Mark
+// The mark that stands at `at`, if one does.
+#[tactic(auto, unfolding(rack::specs::Marks::mark_of))]
+pub fn mark_at(file: &[u8], at: usize) -> Option<Mark>
     requires { at ≤ length file.now }
     ensures { result ≡ mark_found file.now at }
 {
-    if file.len() - at < 2 {
-        return Mark::Absent;
-    }
-    mark_of(file[at], file[at + 1])
-}
-
-// A kind's row and column in the table.
-pub fn number_of(mark: Mark) -> usize
-    ensures { (result ≡ number_of mark) × (result < 10) }
-{
-    match mark {
-        Mark::Nt => 0,
-        Mark::Tr => 1,
-        Mark::Pr => 2,
-        Mark::Ob => 3,
-        Mark::Pt => 4,
-        Mark::Px => 5,
-        Mark::Qf => 6,
-        Mark::Lg => 7,
-        Mark::En => 8,
-        Mark::Absent => 9,
+    match &file[at..] {
+        [b'N', b'T', ..] => Some(Mark::Nt),
+        [b'T', b'R', ..] => Some(Mark::Tr),
+        [b'P', b'R', ..] => Some(Mark::Pr),
+        [b'O', b'B', ..] => Some(Mark::Ob),
+        [b'P', b'T', ..] => Some(Mark::Pt),
+        [b'P', b'X', ..] => Some(Mark::Px),
+        [b'Q', b'F', ..] => Some(Mark::Qf),
+        [b'L', b'G', ..] => Some(Mark::Lg),
+        [b'E', b'N', ..] => Some(Mark::En),
+        _ => None,
     }
 }
 
-// Whether a mark of number `next` may stand after one of number `last`. NT comes first.
-pub fn may_follow(last: usize, next: usize) -> bool
-    requires { last < 10 }
+// Whether the mark `next` may stand after the mark `last`, or as the first of all. NT comes first.
+pub fn may_follow(last: Option<Mark>, next: Mark) -> bool
     ensures { result ≡ can_follow last next }
 {
-    if last == NO_MARK {
-        return next == 0;
+    match last {
+        None => next == Mark::Nt,
+        Some(last) => FOLLOWS[last.number()][next.number()],
     }
-    if 9 <= next {
-        return false;
-    }
-    FOLLOWS[last][next] == 1
 }

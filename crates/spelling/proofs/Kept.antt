@@ -1,18 +1,20 @@
 -- What holds of the case so far while a file is read: its bytes are those read, and kinds that have not come yet have left nothing.
 -- That its counts keep the limits and its lists their lengths is the law of the case file's meaning, WellFormed.
 -- Assumes nothing.
-use mathlib.Core.Path.{◌≡◌, refl, sym, subst}
+use mathlib.Core.Path.{◌≡◌, refl}
 use mathlib.Core.List.{List, []}
-use Prim.Native.Nat.{ℕ, ◌+◌, ◌≤◌, ◌<◌}
+use Prim.Native.Nat.{ℕ, ◌+◌, ◌≤◌}
 use native.Mathlib.Omega.{arith}
+use native.Mathlib.Numerals.{add-one}
 use lib.ListN.{length, take}
-use Rattle.rack.specs.Marks.{mark_found, number_of}
+use Rattle.std.proofs.Common.{Option, Some, None}
+use Rattle.rack.specs.Marks.{number_of}
 use Rattle.rack.specs.Records.{tr_says, px_says}
 use Rattle.rack.specs.Layout.{case_of_zeros, FieldsAre, end_at, added, RecordIs}
 use Rattle.rack.specs.Writing.{up_to, tr_bytes, px_bytes}
 use Rattle.rack.specs.declared.Case.{Case}
 use Rattle.rack.specs.declared.Mark.{Mark}
-use Rattle.rack.specs.declared.Mark.TheVariants.{Nt, Tr, Pr, Ob, Pt, Px, Qf, Lg, En, Absent}
+use Rattle.rack.specs.declared.Mark.TheVariants.{Nt, Tr, Pr, Ob, Pt, Px, Qf, Lg, En}
 use Rattle.rack.proofs.OneReading.{mark_whole}
 use Rattle.rack.proofs.WellFormed.{stage, Timely, in_time, start_kept, keeps}
 use Rattle.rack.proofs.WellFormed as Formed
@@ -20,7 +22,7 @@ use Rattle.spelling.proofs.Letters.{LettersOf, letters_at, letters_spell}
 use Rattle.spelling.proofs.ArcRows.{arcs_join, arc_spells}
 use Rattle.spelling.proofs.Singles.{nt_spells, pt_spells, ob_spells, lg_spells, pairs_join, pair_spells}
 use Rattle.spelling.proofs.BoundRows.{bounds_join, bound_spells}
-use Rattle.spelling.proofs.TableRule.{repeats, reachable, one_of_nine, in_order, stage_kind, reachable_few}
+use Rattle.spelling.proofs.TableRule.{repeats, reachable, in_order, reachable_few}
 use Rattle.spelling.proofs.Segments.{segments, segment, so_far, Unread, up_to_here, join, close}
 
 -- ---- what has not come yet
@@ -40,13 +42,12 @@ unread_kept Px f n c a h u = record { arcs = λ l. absurd (omega arith); pairs =
 unread_kept Qf f n c a h u = all_read 7 (added Qf c f a) (omega arith)
 unread_kept Lg f n c a h u = all_read 8 (added Lg c f a) (omega arith)
 unread_kept En f n c a h u = all_read 9 c (omega arith)
-unread_kept Absent f n c a h u = all_read 10 c (omega arith)
 
 -- ---- the bytes
 
 bytes_kept : (m : Mark) (f : List ℕ) (s : ℕ) (c : Case) (a : ℕ) → a + 2 ≤ length f → LettersOf m f a → Timely m s → FieldsAre m c f a → Formed.Kept s c
-    → up_to (reachable (number_of m)) (segment c) ≡ take a f → so_far (number_of m) (added m c f a) ≡ take (end_at m c f a) f
-unfolding so_far stage reachable repeats segment segments up_to tr_bytes tr_says px_bytes px_says
+    → up_to (reachable (number_of m)) (segment c) ≡ take a f → so_far (Some m) (added m c f a) ≡ take (end_at m c f a) f
+unfolding so_far reachable repeats segment segments up_to tr_bytes tr_says px_bytes px_says
 bytes_kept Nt f s c a h le t w k e = close [] e (nt_spells f a le w)
 bytes_kept Tr f s c a h le t w k e =
     let d = c.arcs in
@@ -68,39 +69,32 @@ bytes_kept Qf f s c a h le t w k e =
     (bound_spells c.pattern.places c.pattern.cap c.bounds f a (k.pattern.net t.low).few k.pattern.bounds w le)
 bytes_kept Lg f s c a h le t w k e = close (up_to 7 (segment c)) e (lg_spells f a c.observable.flags le w)
 bytes_kept En f s c a h le t w k e = close (up_to 8 (segment c)) e (letters_spell f a 69 78 le h)
-bytes_kept Absent f s c a h le t w k e = absurd w
 
--- ---- all of it, after a record of number k and up to a
+-- ---- all of it, after a record of mark k and up to a
 
-pub record Kept (f : List ℕ) (k : ℕ) (c : Case) (a : ℕ) : Type 0 where
-  pub number : k < 10
+pub record Kept (f : List ℕ) (k : Option Mark) (c : Case) (a : ℕ) : Type 0 where
   pub bytes : so_far k c ≡ take a f
   pub unread : Unread (stage k) c
   pub formed : Formed.Kept (stage k) c
 
 -- it holds after the next record
-pub kept_next : (f : List ℕ) (k : ℕ) (c : Case) (a : ℕ) → RecordIs k c f a → Kept f k c a
-    → Kept f (number_of (mark_found f a)) (added (mark_found f a) c f a) (end_at (mark_found f a) c f a)
-kept_next f k c a w s =
-    let m = mark_found f a in
-    let i = one_of_nine k (number_of m) w.follows in
-    let o = in_order k (number_of m) s.number w.follows in
-    let t = in_time m k s.number w.follows in
+pub kept_next : {f : List ℕ} {k : Option Mark} {c : Case} {a : ℕ} {m : Mark} → RecordIs k c f a m → Kept f k c a → Kept f (Some m) (added m c f a) (end_at m c f a)
+kept_next {f} {k} {c} {a} {m} w s =
+    let o = in_order k m w.follows in
+    let t = in_time m k w.follows in
     let e = up_to_here f a k (number_of m) c o s.unread s.bytes in
     let l : stage k ≤ number_of m + 1 = omega (arith, o.least, reachable_few (number_of m)) in
     record {
-      number = omega (arith, i);
-      bytes = bytes_kept m f (stage k) c a (mark_whole f k a w.follows) (letters_at f a) t w.fields s.formed e;
-      unread = subst (λ (n : ℕ). Unread n (added m c f a)) (sym (stage_kind (number_of m) i)) (unread_kept m f (stage k) c a l s.unread);
+      bytes = bytes_kept m f (stage k) c a (mark_whole f a m w.found) (letters_at f a w.found) t w.fields s.formed e;
+      unread = rw (← add-one (number_of m)) (unread_kept m f (stage k) c a l s.unread);
       formed = keeps m f (stage k) c a t w.fields s.formed;
     }
 
 -- it holds at the start
-pub kept_first : (f : List ℕ) → Kept f 9 case_of_zeros 0
-unfolding case_of_zeros so_far stage up_to
+pub kept_first : (f : List ℕ) → Kept f None case_of_zeros 0
+unfolding case_of_zeros so_far up_to
 kept_first f =
     record {
-      number = omega arith;
       bytes = refl;
       unread = record { arcs = λ _. refl; pairs = λ _. refl; links = λ _. refl; bounds = λ _. refl };
       formed = start_kept;

@@ -4,7 +4,7 @@ use Prim.Native.Nat.{ℕ, suc}
 use mathlib.Core.Path.{◌≡◌, refl}
 use mathlib.Core.Bool.{Bool, true, false}
 use mathlib.Core.List.{List}
-use mathlib.Core.Option.{Option, none, some}
+use Rattle.std.proofs.Common.{Option, Some, None}
 use lib.ListN.{length, replicate}
 use lib.Dec.{T}
 use Rattle.walks.specs.Below.{all_below, table_from, every}
@@ -14,7 +14,7 @@ use Rattle.rack.specs.Records.{nt_says, pt_says, tr_says, px_says, pr_says, ob_s
 use Rattle.rack.specs.Layout.{case_of_zeros, ReadsAs}
 use Rattle.rack.specs.Writing.{listed, up_to, nt_bytes, tr_bytes, pr_bytes, ob_bytes, pt_bytes, px_bytes, qf_bytes, lg_bytes, bytes_of}
 use Rattle.rack.specs.declared.Case.{Case}
-use Rattle.rack.proofs.Parse.{list_tests, net_tests, arcs_tests, rises_test, pr_tests, qf_tests, lg_tests, fields_test, parse, parsed}
+use Rattle.rack.proofs.Parse.{list_tests, net_tests, arcs_tests, rises_test, pr_tests, qf_tests, lg_tests, fields_test, after_right, parse, parsed}
 
 unfoldable long_case : Case
 long_case =
@@ -36,18 +36,18 @@ has-length = refl
 -- ---- it reads
 
 found : Option Case → Bool
-found none = false
-found (some c) = true
+found None = false
+found (Some c) = true
 
-reads_as : (f : List ℕ) (o : Option Case) → parse 200 f 9 case_of_zeros 0 ≡ o → T (found o) → (c : Case) × ReadsAs f c
+reads_as : (f : List ℕ) (o : Option Case) → parse 200 f None case_of_zeros 0 ≡ o → T (found o) → (c : Case) × ReadsAs f c
 unfolding found
-reads_as f none e t = absurd t
-reads_as f (some c) e t = (c, parsed e)
+reads_as f None e t = absurd t
+reads_as f (Some c) e t = (c, parsed e)
 
-computed : T (found (parse 200 (bytes_of long_case) 9 case_of_zeros 0))
-unfolding found long_case all_below table_from every filled put rising marked mark_of follows nt_says pt_says tr_says px_says pr_says ob_says bounds qf_says observed lg_says case_of_zeros listed up_to nt_bytes tr_bytes pr_bytes ob_bytes pt_bytes px_bytes qf_bytes lg_bytes bytes_of list_tests net_tests arcs_tests rises_test pr_tests qf_tests lg_tests fields_test parse
+computed : T (found (parse 200 (bytes_of long_case) None case_of_zeros 0))
+unfolding found long_case all_below table_from every filled put rising marked mark_of follows nt_says pt_says tr_says px_says pr_says ob_says bounds qf_says observed lg_says case_of_zeros listed up_to nt_bytes tr_bytes pr_bytes ob_bytes pt_bytes px_bytes qf_bytes lg_bytes bytes_of list_tests net_tests arcs_tests rises_test pr_tests qf_tests lg_tests fields_test after_right parse
 computed = tt
 
 -- "The longest file has 2,496 bytes.": a file of that length reads
 pub longest_there : (f : List ℕ) × ((c : Case) × ReadsAs f c) × (length f ≡ 2496)
-longest_there = (bytes_of long_case, reads_as (bytes_of long_case) (parse 200 (bytes_of long_case) 9 case_of_zeros 0) refl computed, has-length)
+longest_there = (bytes_of long_case, reads_as (bytes_of long_case) (parse 200 (bytes_of long_case) None case_of_zeros 0) refl computed, has-length)

@@ -11,6 +11,9 @@ use lib.Dec.{T, eqb, eqb→eq}
 use Rattle.walks.proofs.Tests.{or_cases}
 use Rattle.rack.specs.Writing.{up_to, nt_bytes, tr_bytes, pr_bytes, ob_bytes, pt_bytes, px_bytes, qf_bytes, lg_bytes, en_bytes, bytes_of}
 use Rattle.rack.specs.declared.Case.{Case}
+use Rattle.rack.specs.declared.Mark.{Mark}
+use Rattle.rack.specs.declared.Mark.TheVariants.{En}
+use Rattle.std.proofs.Common.{Option, Some}
 use Rattle.rack.proofs.WellFormed.{stage}
 use Rattle.spelling.proofs.Repeats.{up_to_none, up_to_skip}
 use Rattle.spelling.proofs.Spells.{Spells}
@@ -33,12 +36,12 @@ segments c =
 unfoldable pub segment : Case → ℕ → List ℕ
 segment c j = get_or (segments c) j []
 
--- the bytes of the records read, the last of which has number k
-unfoldable pub so_far : ℕ → Case → List ℕ
+-- the bytes of the records read, the last of which has mark k (None: none was read)
+unfoldable pub so_far : Option Mark → Case → List ℕ
 so_far k c = up_to (stage k) (segment c)
 
-pub all_segments : (c : Case) → bytes_of c ≡ so_far 8 c
-unfolding bytes_of so_far stage segment segments up_to
+pub all_segments : (c : Case) → bytes_of c ≡ so_far (Some En) c
+unfolding bytes_of so_far segment segments up_to
 all_segments c = simp append_assoc
 
 -- of the kinds from number n on nothing has come yet
@@ -65,7 +68,7 @@ module _ (c : Case) (n : ℕ) (u : Unread n c) where
       (or_cases (eqb j 1) (eqb j 2 || (eqb j 5 || eqb j 6)) t)
 
 -- where a mark of number m comes next, the kinds passed over have added nothing
-pub up_to_here : (f : List ℕ) (a k m : ℕ) (c : Case) → InOrder k m → Unread (stage k) c → so_far k c ≡ take a f → up_to (reachable m) (segment c) ≡ take a f
+pub up_to_here : (f : List ℕ) (a : ℕ) (k : Option Mark) (m : ℕ) (c : Case) → InOrder (stage k) m → Unread (stage k) c → so_far k c ≡ take a f → up_to (reachable m) (segment c) ≡ take a f
 unfolding so_far
 up_to_here f a k m c o u e =
     up_to_skip (stage k) (reachable m) (segment c) o.least (λ j l h. none_yet c (stage k) u j l (o.between j l h)) ∙ e

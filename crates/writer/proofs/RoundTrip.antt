@@ -14,6 +14,8 @@ use Rattle.rack.specs.Outcome.{holding}
 use Rattle.rack.specs.CaseFileOutcome.{longest_file, ReaderIs, some_file, room_long, WriterIs}
 use Rattle.rack.specs.CaseFileOutcome as file
 use Rattle.rack.specs.declared.Case.{Case}
+use Rattle.rack.specs.declared.Mark.{Mark}
+use Rattle.std.proofs.Common.{Option, None}
 use Rattle.rack.specs.declared.Reading.{Reading}
 use Rattle.rack.specs.declared.Outcome.TheVariants as Reader
 use Rattle.rack.specs.declared.Written.{Written}
@@ -26,13 +28,13 @@ use Rattle.spelling.proofs.Segments.{so_far, all_segments}
 use Rattle.spelling.proofs.Kept.{Kept, kept_next, kept_first}
 use Rattle.spelling.proofs.Lengths.{bytes_few}
 
-from_here : (f : List ℕ) (k : ℕ) (c : Case) (a : ℕ) (e : Case) → Reads f k c a (whole e) → Kept f k c a → bytes_of e ≡ f
-from_here f k c a e (done u v) s = all_segments e ∙ sym (ap (λ (k : ℕ). so_far k e) u) ∙ s.bytes ∙ ap (λ (a : ℕ). take a f) v ∙ take-length f
-from_here f k c a e (next w r) s = from_here f _ _ _ e r (kept_next f k c a w s)
+from_here : (f : List ℕ) (k : Option Mark) (c : Case) (a : ℕ) (e : Case) → Reads f k c a (whole e) → Kept f k c a → bytes_of e ≡ f
+from_here f k c a e (done u v) s = all_segments e ∙ sym (ap (λ (k : Option Mark). so_far k e) u) ∙ s.bytes ∙ ap (λ (a : ℕ). take a f) v ∙ take-length f
+from_here f k c a e (next w r) s = from_here f _ _ _ e r (kept_next w s)
 
 -- READ, THEN WRITTEN: the same bytes
 pub read_written : {f : List ℕ} {c : Case} → ReadsAs f c → bytes_of c ≡ f
-read_written {f} {c} r = from_here f 9 case_of_zeros 0 c r.reads (kept_first f)
+read_written {f} {c} r = from_here f None case_of_zeros 0 c r.reads (kept_first f)
 
 -- WRITTEN, THEN READ: the same case
 pub written_read : {c : Case} → Writable c → ReadsAs (bytes_of c) c
