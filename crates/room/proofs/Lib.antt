@@ -1,5 +1,4 @@
 -- Laws on plain values that the proofs of this crate and of others cite.
-pub mod Scans
 pub mod RowLaws
 pub mod WordLaws
 pub mod OrderLaws
