@@ -22,7 +22,7 @@ use Rattle.rack.specs.Listing.{Asked, from_start, after, later}
 use Rattle.rack.specs.Replay.{explains}
 use Rattle.rack.specs.Bytes.{filled, put, rising, marked}
 use Rattle.rack.specs.Marks.{mark_of, follows}
-use Rattle.rack.specs.Records.{nt_says, pt_says, tr_says, px_says, pr_says, ob_says, bounds, qf_says, observed, lg_says}
+use Rattle.rack.specs.Records.{net_says, arcs_says, pr_says, ob_says, bounds, qf_says, observed, lg_says}
 use Rattle.rack.specs.Layout.{case_of_zeros, ReadsAs}
 use Rattle.rack.specs.Writing.{listed, up_to, nt_bytes, tr_bytes, pr_bytes, ob_bytes, pt_bytes, px_bytes, qf_bytes, lg_bytes, bytes_of}
 use Rattle.rack.specs.Refusal.{pair_at, lower_of, NetsPass}
@@ -159,7 +159,7 @@ unfolding label_of joins follow start step pattern_goes product_within product_g
 running = tt
 
 unfoldable reading : Unit {0}
-unfolding mark_of follows nt_says pt_says tr_says px_says pr_says ob_says bounds qf_says observed lg_says case_of_zeros case_tests list_tests net_tests arcs_tests rises_test pr_tests qf_tests lg_tests fields_test after_right parse
+unfolding mark_of follows net_says arcs_says pr_says ob_says bounds qf_says observed lg_says case_of_zeros case_tests list_tests net_tests arcs_tests rises_test pr_tests qf_tests lg_tests fields_test after_right parse
 reading = tt
 
 unfoldable writing : Unit {0}

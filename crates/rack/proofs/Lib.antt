@@ -11,7 +11,6 @@ pub mod Lift
 pub mod Decide
 pub mod Parse
 pub mod WellFormedLists
-pub mod Stretches
 pub mod LogPlace
 pub mod WellFormedKinds
 pub mod WellFormed

@@ -12,7 +12,7 @@ use Rattle.std.proofs.Common.{Option, Some, None}
 use Rattle.walks.specs.Below.{implies, all_below}
 use Rattle.walks.proofs.Tests.{and_left, and_right, given, of_true, below_at}
 use Rattle.rack.specs.Marks.{number_of, follows, can_follow}
-use Rattle.rack.specs.Records.{nt_says, pt_says, tr_says, px_says, pr_says, ob_says, qf_says, lg_says}
+use Rattle.rack.specs.Records.{net_says, arcs_says, pr_says, ob_says, qf_says, lg_says}
 use Rattle.rack.specs.Layout.{FieldsAre, added, case_of_zeros, Ending, whole, broken, Reads, done, wrong, next, ReadsAs}
 use Rattle.rack.specs.Run.{log_of}
 use Rattle.rack.specs.WellFormed.{NetFits, ArcsFit, PairsFit, FlagsFit, BoundsFit, LogFits, WellFormed}
@@ -196,7 +196,7 @@ module _ {s : ℕ} (s' : ℕ) where
 
 -- a right record of any kind keeps all of it
 pub keeps : (m : Mark) (f : List ℕ) (s : ℕ) (c : Case) (a : ℕ) → Timely m s → FieldsAre m c f a → Kept s c → Kept (stage (Some m)) (added m c f a)
-unfolding nt_says pt_says tr_says px_says pr_says ob_says qf_says lg_says
+unfolding net_says arcs_says pr_says ob_says qf_says lg_says
 keeps Nt f s c a t w k =
     record {
       system = record {

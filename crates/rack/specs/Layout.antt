@@ -2,7 +2,7 @@
 -- Assumes nothing.
 use Rattle.std.specs.Prelude.{ℕ, ◌+◌, ◌≡◌, true, List, Option, Some, None, length, replicate}
 use Rattle.rack.specs.Marks.{mark_found, can_follow}
-use Rattle.rack.specs.Records.{NetIs, net_end, nt_says, pt_says, ArcsIs, arcs_end, tr_says, px_says, PrIs, pr_end, pr_says, ObIs, ob_end, ob_says, QfIs, qf_end, qf_says, LgIs, lg_end, lg_says}
+use Rattle.rack.specs.Records.{NetIs, net_end, net_says, ArcsIs, arcs_end, arcs_says, PrIs, pr_end, pr_says, ObIs, ob_end, ob_says, QfIs, qf_end, qf_says, LgIs, lg_end, lg_says}
 use Rattle.rack.specs.declared.Case.{Case}
 use Rattle.rack.specs.declared.Mark.{Mark}
 use Rattle.rack.specs.declared.Mark.TheVariants.{Nt, Tr, Pr, Ob, Pt, Px, Qf, Lg, En}
@@ -47,12 +47,12 @@ end_at En c f a = a + 2
 
 -- the case with what it says
 abbrev pub added : Mark → Case → List ℕ → ℕ → Case
-added Nt c f a = record { net = nt_says f a; arcs = c.arcs; pairs = c.pairs; observable = c.observable; pattern = c.pattern; links = c.links; bounds = c.bounds; log = c.log }
-added Tr c f a = record { net = c.net; arcs = tr_says c.arcs f a; pairs = c.pairs; observable = c.observable; pattern = c.pattern; links = c.links; bounds = c.bounds; log = c.log }
+added Nt c f a = record { net = net_says 16 f a; arcs = c.arcs; pairs = c.pairs; observable = c.observable; pattern = c.pattern; links = c.links; bounds = c.bounds; log = c.log }
+added Tr c f a = record { net = c.net; arcs = arcs_says 16 c.arcs f a; pairs = c.pairs; observable = c.observable; pattern = c.pattern; links = c.links; bounds = c.bounds; log = c.log }
 added Pr c f a = record { net = c.net; arcs = c.arcs; pairs = pr_says c.pairs f a; observable = c.observable; pattern = c.pattern; links = c.links; bounds = c.bounds; log = c.log }
 added Ob c f a = record { net = c.net; arcs = c.arcs; pairs = c.pairs; observable = ob_says f a; pattern = c.pattern; links = c.links; bounds = c.bounds; log = c.log }
-added Pt c f a = record { net = c.net; arcs = c.arcs; pairs = c.pairs; observable = c.observable; pattern = pt_says f a; links = c.links; bounds = c.bounds; log = c.log }
-added Px c f a = record { net = c.net; arcs = c.arcs; pairs = c.pairs; observable = c.observable; pattern = c.pattern; links = px_says c.links f a; bounds = c.bounds; log = c.log }
+added Pt c f a = record { net = c.net; arcs = c.arcs; pairs = c.pairs; observable = c.observable; pattern = net_says 8 f a; links = c.links; bounds = c.bounds; log = c.log }
+added Px c f a = record { net = c.net; arcs = c.arcs; pairs = c.pairs; observable = c.observable; pattern = c.pattern; links = arcs_says 8 c.links f a; bounds = c.bounds; log = c.log }
 added Qf c f a = record { net = c.net; arcs = c.arcs; pairs = c.pairs; observable = c.observable; pattern = c.pattern; links = c.links; bounds = qf_says c.pattern.places c.bounds f a; log = c.log }
 added Lg c f a = record { net = c.net; arcs = c.arcs; pairs = c.pairs; observable = c.observable; pattern = c.pattern; links = c.links; bounds = c.bounds; log = lg_says f a }
 added En c f a = c

@@ -25,11 +25,8 @@ pub record NetIs (most : ℕ) (f : List ℕ) (a : ℕ) : Type 0 where
 abbrev pub net_end : List ℕ → ℕ → ℕ
 net_end f a = a + 4 + byte f (a + 2)
 
-unfoldable pub nt_says : List ℕ → ℕ → Net 16
-nt_says f a = record { places = byte f (a + 2); cap = byte f (a + 3); first = filled 16 (part f (a + 4) (byte f (a + 2))) }
-
-unfoldable pub pt_says : List ℕ → ℕ → Net 8
-pt_says f a = record { places = byte f (a + 2); cap = byte f (a + 3); first = filled 8 (part f (a + 4) (byte f (a + 2))) }
+unfoldable pub net_says : (most : ℕ) → List ℕ → ℕ → Net most
+net_says most f a = record { places = byte f (a + 2); cap = byte f (a + 3); first = filled most (part f (a + 4) (byte f (a + 2))) }
 
 -- ---- TR | "label 0..31; input count, inputs; output count, outputs" | "0..48"
 -- PX | "as TR, for the pattern" | "0..16"
@@ -45,22 +42,14 @@ pub record ArcsIs (most places count : ℕ) (f : List ℕ) (a : ℕ) : Type 0 wh
 abbrev pub arcs_end : List ℕ → ℕ → ℕ
 arcs_end f a = list_end f (list_end f (a + 3))
 
-unfoldable pub tr_says : Arcs 48 768 → List ℕ → ℕ → Arcs 48 768
-tr_says c f a =
+-- in rows of a width: 16 for the system, 8 for the pattern
+unfoldable pub arcs_says : {most cells : ℕ} → ℕ → Arcs most cells → List ℕ → ℕ → Arcs most cells
+arcs_says width c f a =
     record {
       count = c.count + 1;
       labels = set c.labels c.count (byte f (a + 2));
-      pre = marked (c.count * 16) (list_at f (a + 3)) c.pre;
-      post = marked (c.count * 16) (list_at f (list_end f (a + 3))) c.post;
-    }
-
-unfoldable pub px_says : Arcs 16 128 → List ℕ → ℕ → Arcs 16 128
-px_says c f a =
-    record {
-      count = c.count + 1;
-      labels = set c.labels c.count (byte f (a + 2));
-      pre = marked (c.count * 8) (list_at f (a + 3)) c.pre;
-      post = marked (c.count * 8) (list_at f (list_end f (a + 3))) c.post;
+      pre = marked (c.count * width) (list_at f (a + 3)) c.pre;
+      post = marked (c.count * width) (list_at f (list_end f (a + 3))) c.post;
     }
 
 -- ---- PR | "higher, lower transition" | "0..32". "PR pairs rise strictly, higher first. Numbers must name an existing .. transition."

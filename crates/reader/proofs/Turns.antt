@@ -7,7 +7,7 @@ use Prim.Native.Nat.{ℕ, ◌+◌, ◌≤◌, ◌<◌}
 use native.Mathlib.Omega.{arith}
 use lib.ListN.{length}
 use Rattle.rack.specs.Marks.{mark_found, can_follow}
-use Rattle.rack.specs.Records.{nt_says, pt_says}
+use Rattle.rack.specs.Records.{net_says}
 use Rattle.rack.specs.Layout.{FieldsAre, end_at, added, RecordIs, case_of_zeros, Ending, whole, broken, Reads, done, wrong, next, ReadAs, ReadsAs, BreaksAt}
 use Rattle.rack.specs.declared.Case.{Case}
 use Rattle.rack.specs.declared.Mark.{Mark}
@@ -33,7 +33,7 @@ past En c f a l w = (omega arith, l)
 
 -- after it the rows still fit
 rows_kept : (m : Mark) (c : Case) (f : List ℕ) (a : ℕ) → FieldsAre m c f a → RowsFit c → RowsFit (added m c f a)
-unfolding nt_says pt_says
+unfolding net_says
 rows_kept Nt c f a w s = record { system = w.few; pattern = s.pattern }
 rows_kept Tr c f a w s = record { system = s.system; pattern = s.pattern }
 rows_kept Pr c f a w s = record { system = s.system; pattern = s.pattern }

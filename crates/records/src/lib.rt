@@ -1,5 +1,6 @@
-// The records of a case file, one at a time: which mark stands at an offset, which may follow which, whether a record is right and where it
-// ends. What a right record is stands in rack's specs/Records.antt; what it puts into the case, crate slots does.
+// The records of a case file, one at a time: which mark stands at an offset, which may follow which, whether a record
+// is right and where it ends. What a right record is stands in rack's specs/Records.antt; what it puts into the case,
+// crate slots does.
 
 #![tactic(auto)]
 

@@ -4,22 +4,22 @@ ghost use Rattle.rack.specs.Marks.{mark_found, can_follow};
 
 use rack::Mark;
 
-// The table's entries: the kind of the column may come next, or it may not.
-const YES: bool = true;
+// An entry of the table: the kind of the column may come next, or it may not.
+const Y: bool = true;
 
-const NO: bool = false;
+const N: bool = false;
 
 // "Which mark may follow which is a fixed table": a row for each kind, a column for each kind that may come next.
 const FOLLOWS: [[bool; 9]; 9] = [
-    [NO, YES, YES, YES, NO, NO, NO, NO, NO], // NT
-    [NO, YES, YES, YES, NO, NO, NO, NO, NO], // TR
-    [NO, NO, YES, YES, NO, NO, NO, NO, NO], // PR
-    [NO, NO, NO, NO, YES, NO, NO, NO, NO], // OB
-    [NO, NO, NO, NO, NO, YES, YES, NO, NO], // PT
-    [NO, NO, NO, NO, NO, YES, YES, NO, NO], // PX
-    [NO, NO, NO, NO, NO, NO, YES, YES, NO], // QF
-    [NO, NO, NO, NO, NO, NO, NO, NO, YES], // LG
-    [NO, NO, NO, NO, NO, NO, NO, NO, NO], // EN
+    [N, Y, Y, Y, N, N, N, N, N], // NT
+    [N, Y, Y, Y, N, N, N, N, N], // TR
+    [N, N, Y, Y, N, N, N, N, N], // PR
+    [N, N, N, N, Y, N, N, N, N], // OB
+    [N, N, N, N, N, Y, Y, N, N], // PT
+    [N, N, N, N, N, Y, Y, N, N], // PX
+    [N, N, N, N, N, N, Y, Y, N], // QF
+    [N, N, N, N, N, N, N, N, Y], // LG
+    [N, N, N, N, N, N, N, N, N], // EN
 ];
 
 // The mark that stands at `at`, if one does.

@@ -23,7 +23,8 @@ pub fn all_observed(labels: &[u8], flags: &[u8; 32]) -> bool
         .all(|&label| label < 32 && flags[usize::from(label)] == 1)
 }
 
-// Whether the bounds of the QF record at `at` are in order for each of the places: least at most most, most at most `cap`.
+// Whether the bounds of the QF record at `at` are in order for each of the places: least at most most, most at most
+// `cap`.
 pub fn all_bounded(file: &[u8], at: usize, places: usize, cap: u8) -> bool
     requires { at + 2 + 2 * places ≤ length file.now }
     ensures { result ≡ all_below places (bounds file.now at cap) }
@@ -35,7 +36,7 @@ pub fn all_bounded(file: &[u8], at: usize, places: usize, cap: u8) -> bool
 }
 
 // Whether the numbers rise strictly, each below `bound`.
-pub fn all_rising(numbers: &[u8], bound: u8) -> bool
+fn all_rising(numbers: &[u8], bound: u8) -> bool
     ensures { result ≡ rising 0 bound numbers.now }
 {
     let mut low = 0;
@@ -48,7 +49,8 @@ pub fn all_rising(numbers: &[u8], bound: u8) -> bool
     true
 }
 
-// Reads the counted list at `at`, whose numbers have to rise strictly, each below `bound`. A list that is not so is refused at `place`.
+// Reads the counted list at `at`, whose numbers have to rise strictly, each below `bound`. A list that is not so is
+// refused at `place`.
 pub fn read_list(file: &[u8], at: usize, bound: u8, place: usize) -> Result<usize, Misplaced>
     requires { at ≤ length file.now }
     ensures { Answers (ListIs bound file.now at) (list_end file.now at) place result }

@@ -1,60 +1,37 @@
--- What goes into the case's slots: a copied list filled up with zeros, a strictly rising list in a row, a table put into a row.
+-- What goes into the case's slots: a strictly rising list in a row, a table put into a row.
 -- Assumes nothing.
 use mathlib.Core.Path.{◌≡◌, refl, sym, ap, ◌∙◌}
 use mathlib.Core.Bool.{true}
 use mathlib.Core.List.{List, [], ◌∷◌, ◌++◌, append_assoc}
-use Prim.Native.Nat.{ℕ, zero, suc, ◌+◌, ◌-◌, ◌≤◌, ◌<◌}
+use Prim.Native.Nat.{ℕ, zero, suc, ◌+◌, ◌≤◌, ◌<◌}
 use native.Mathlib.Omega.{arith}
 use native.Mathlib.Numerals.{add-one}
 use native.Mathlib.Nat.{not-suc-le-zero, le_of_suc-le-suc}
-use lib.ListN.{length, get_or, take, drop, set, replicate}
-use lib.Seq.{take_all, paste, paste-suc}
+use lib.ListN.{length, get_or, take, drop, set}
+use lib.Seq.{take_all, get_or-take, get_or-drop, paste, paste-suc}
 use borrow.Author.Tests.{le-leb, lt-ltb}
 use Rattle.walks.specs.Below.{table_from}
-use Rattle.rack.specs.Bytes.{byte, part, filled, put, rising, list_at, ListIs}
+use Rattle.rack.specs.Bytes.{byte, part, put, rising, list_at, ListIs}
 use Rattle.rack.specs.Records.{ArcsIs}
-use Rattle.rack.specs.Outcome.{holding}
 use Rattle.rack.proofs.WellFormedLists.{length_part, head_low, head_high, tail_rises}
 use Rattle.walks.proofs.Tables.{length_table, table_at}
-use Rattle.rack.proofs.Stretches.{get_d_part}
 
--- ---- copied to the front
+-- ---- a stretch of a file
 
-pub paste_turn : (d : List ℕ) (at : ℕ) (s : List ℕ) (j : ℕ) (room : List ℕ) → at + j < length d → j < length s
+pub byte_of_part : (f : List ℕ) (from n j : ℕ) → j < n → get_or (part f from n) j 0 ≡ byte f (from + j)
+byte_of_part f from n j h = get_or-take n (drop from f) j 0 h ∙ get_or-drop from f j 0
+
+-- ---- pasted
+
+paste_turn : (d : List ℕ) (at : ℕ) (s : List ℕ) (j : ℕ) (room : List ℕ) → at + j < length d → j < length s
     → room ≡ paste d at s j → set room (at + j) (get_or s j 0) ≡ paste d at s (j + 1)
 paste_turn d at s j room hd hs e =
     ap (λ (r : List ℕ). set r (at + j) (get_or s j 0)) e ∙ paste-suc d at s j 0 hd hs ∙ ap (paste d at s) (sym (add-one j))
 
-pub front_turn : (d s : List ℕ) (j : ℕ) (room : List ℕ) → j < length d → j < length s → room ≡ paste d 0 s j
-    → set room j (get_or s j 0) ≡ paste d 0 s (j + 1)
-front_turn d s j room hd hs e =
-    let z : 0 + j ≡ j = omega arith in
-    ap (λ (k : ℕ). set room k (get_or s j 0)) (sym z) ∙ paste_turn d 0 s j room (omega arith) hs e
-
--- all of a list, copied to the front of a room: the room holds it
-pub copied_holds : (d s : List ℕ) (n : ℕ) → length s ≡ n → paste d 0 s n ≡ holding s d
-copied_holds d s n e =
-    let z : 0 + n ≡ length s = omega arith in
-    ap (λ (l : List ℕ). l ++ drop (0 + n) d) (take_all n s (omega arith)) ∙ ap (λ (k : ℕ). s ++ drop k d) z
-
-drop_zeros : (k w : ℕ) → ◌≡◌ {A = List ℕ} (drop k (replicate w 0)) (replicate (w - k) 0)
-drop_zeros zero w = let z : w ≡ w - 0 = omega arith in ap (λ (n : ℕ). replicate n 0) z
-drop_zeros (suc k) zero = let z : 0 ≡ 0 - suc k = omega arith in ap (λ (n : ℕ). replicate n 0) z
-drop_zeros (suc k) (suc w) = let z : w - k ≡ suc w - suc k = omega arith in drop_zeros k w ∙ ap (λ (n : ℕ). replicate n 0) z
-
--- copied to the front of zeros: the list, filled up with zeros
-pub copied_fills : (w : ℕ) (s : List ℕ) (n : ℕ) → length s ≡ n → paste (replicate w 0) 0 s n ≡ filled w s
-unfolding filled
-copied_fills w s n e = copied_holds (replicate w 0) s n e ∙ ap (λ (l : List ℕ). s ++ l) (drop_zeros (length s) w)
-
--- a stretch of the file, copied to the front of zeros
-pub stretch_fills : (w : ℕ) (f : List ℕ) (a n : ℕ) → a + n ≤ length f → paste (replicate w 0) 0 (part f a n) n ≡ filled w (part f a n)
-stretch_fills w f a n h = copied_fills w (part f a n) n (length_part f a n h)
-
 -- ---- a list that rises
 
 -- each of its numbers is below the bound
-pub rising_below : (low b : ℕ) (l : List ℕ) → rising low b l ≡ true → (j : ℕ) → j < length l → get_or l j 0 < b
+rising_below : (low b : ℕ) (l : List ℕ) → rising low b l ≡ true → (j : ℕ) → j < length l → get_or l j 0 < b
 rising_below low b [] r j h = absurd (not-suc-le-zero h)
 rising_below low b (x ∷ xs) r zero h = head_high low b x xs r
 rising_below low b (x ∷ xs) r (suc j) h = rising_below (x + 1) b xs (tail_rises low b x xs r) j (le_of_suc-le-suc h)
@@ -79,7 +56,7 @@ pub list_below : {b : ℕ} {f : List ℕ} {a : ℕ} → ListIs b f a → (j : �
 list_below {b} {f} {a} l j h =
     let n = length_part f (a + 1) (byte f a) l.ends in
     let u = rising_below 0 b (list_at f a) l.rises j (omega (arith, n)) in
-    let e = get_d_part f (a + 1) (byte f a) l.ends j h in
+    let e = byte_of_part f (a + 1) (byte f a) j h in
     omega (arith, u, e)
 
 -- ---- a table put into a row

@@ -1,96 +1,64 @@
-// The slots of a case: what a right record puts into them. Each kind of record has a struct of its own in the case, so a record changes
-// that struct alone. What a record says stands in rack's specs/Records.antt; whether it is right, crate records tells.
+// The slots of a case: what a right record puts into them. Each kind of record has a struct of its own in the case, so
+// a record changes that struct alone. What a record says stands in rack's specs/Records.antt; whether it is right,
+// crate records tells.
+// Kept: (file, at) stay two parameters: mark_list is asked at three offsets of one file, so a struct would be made anew.
 
 #![tactic(auto)]
 
 mod stores;
 
 ghost use Rattle.std.specs.Prelude.{◌≡◌, ◌+◌, ◌*◌, ◌≤◌, ◌<◌, length};
-ghost use Rattle.rack.specs.Bytes.{byte, marked, list_at, list_end, ListIs};
-ghost use Rattle.rack.specs.Records.{NetIs, nt_says, pt_says, ArcsIs, tr_says, px_says, pr_says, ObIs, ob_says, qf_end, qf_says, lg_end, lg_says};
+ghost use Rattle.rack.specs.Bytes.{byte};
+ghost use Rattle.rack.specs.Records.{NetIs, net_says, ArcsIs, arcs_says, pr_says, ObIs, ob_says};
+ghost use Rattle.rack.specs.Records.{qf_end, qf_says, lg_end, lg_says};
 ghost use Rattle.rack.specs.Layout.{case_of_zeros};
 
-use rack::{Arcs, Bounds, Case, Log, Net, Observable, Pairs, PatternArcs, PatternNet, wide};
-use stores::{copy, mark_list, put_bounds};
+use rack::{Arcs, Bounds, Case, Log, Net, Observable, Pairs};
+use stores::{fill_up, mark_list, put_bounds};
 
-// NT: the system's places, cap and first tokens.
-pub fn add_nt(file: &[u8], at: usize) -> Net<16>
-    requires { NetIs 16 file.now at }
-    ensures { result ≡ nt_says file.now at }
+// NT and PT: a net's places, cap and first tokens.
+#[tactic(auto, unfolding(rack::specs::Records::net_says))]
+pub fn add_net<const PLACES: usize>(file: &[u8], at: usize) -> Net<PLACES>
+    requires { NetIs PLACES file.now at }
+    ensures { result ≡ net_says PLACES file.now at }
 {
     let places = file[at + 2];
-    let mut first = [0u8; 16];
-    copy(&mut first, file, at + 4, wide(places));
+    let first = at + 4;
     Net {
-        places: places,
+        places,
         cap: file[at + 3],
-        first: first,
+        first: fill_up(&file[first..first + usize::from(places)]),
     }
 }
 
-// PT: the pattern's places, cap and first tokens.
-pub fn add_pt(file: &[u8], at: usize) -> PatternNet
-    requires { NetIs 8 file.now at }
-    ensures { result ≡ pt_says file.now at }
+// TR and PX: one more transition, in rows of a width.
+#[tactic(auto, unfolding(rack::specs::Records::arcs_says))]
+pub fn add_arcs<const TRANSITIONS: usize, const CELLS: usize>(
+    mut arcs: Arcs<TRANSITIONS, CELLS>,
+    width: usize,
+    file: &[u8],
+    at: usize,
+) -> Arcs<TRANSITIONS, CELLS>
+    requires few { TRANSITIONS < 256 }
+    requires cells { TRANSITIONS * width ≤ CELLS }
+    requires right { ArcsIs TRANSITIONS width arcs.count file.now at }
+    ensures { result ≡ arcs_says width arcs.entry file.now at }
 {
-    let places = file[at + 2];
-    let mut first = [0u8; 8];
-    copy(&mut first, file, at + 4, wide(places));
-    Net {
-        places: places,
-        cap: file[at + 3],
-        first: first,
-    }
-}
-
-// Marks the counted list at `at` in a row of the system's arcs, and gives the offset after the list.
-fn mark_system(rows: &mut [u8; 768], row: usize, file: &[u8], at: usize) -> usize
-    requires { ListIs 16 file.now at × (row < 48) }
-    ensures { (rows.new ≡ marked (row * 16) (list_at file.now at) rows.old) × (result ≡ list_end file.now at) }
-{
-    mark_list(rows, row, 16, file, at)
-}
-
-// Marks the counted list at `at` in a row of the pattern's arcs, and gives the offset after the list.
-fn mark_pattern(rows: &mut [u8; 128], row: usize, file: &[u8], at: usize) -> usize
-    requires { ListIs 8 file.now at × (row < 16) }
-    ensures { (rows.new ≡ marked (row * 8) (list_at file.now at) rows.old) × (result ≡ list_end file.now at) }
-{
-    mark_list(rows, row, 8, file, at)
-}
-
-// TR: one more transition of the system.
-pub fn add_tr(mut arcs: Arcs<48, 768>, file: &[u8], at: usize) -> Arcs<48, 768>
-    requires { ArcsIs 48 16 arcs.count file.now at }
-    ensures { result ≡ tr_says arcs file.now at }
-{
-    let row = wide(arcs.count);
+    let row = usize::from(arcs.count);
     arcs.labels[row] = file[at + 2];
-    let outputs = mark_system(&mut arcs.pre, row, file, at + 3);
-    mark_system(&mut arcs.post, row, file, outputs);
+    let outputs = mark_list(&mut arcs.pre, row, width, file, at + 3);
+    mark_list(&mut arcs.post, row, width, file, outputs);
     arcs.count += 1;
     arcs
 }
 
-// PX: one more transition of the pattern.
-pub fn add_px(mut links: PatternArcs, file: &[u8], at: usize) -> PatternArcs
-    requires { ArcsIs 16 8 links.count file.now at }
-    ensures { result ≡ px_says links file.now at }
-{
-    let row = wide(links.count);
-    links.labels[row] = file[at + 2];
-    let outputs = mark_pattern(&mut links.pre, row, file, at + 3);
-    mark_pattern(&mut links.post, row, file, outputs);
-    links.count += 1;
-    links
-}
-
 // PR: one more pair.
+#[tactic(auto, unfolding(rack::specs::Records::pr_says))]
 pub fn add_pr(mut pairs: Pairs, file: &[u8], at: usize) -> Pairs
     requires { (pairs.count < 32) × (at + 4 ≤ length file.now) }
     ensures { result ≡ pr_says pairs file.now at }
 {
-    let last = wide(pairs.count);
+    let last = usize::from(pairs.count);
     pairs.higher[last] = file[at + 2];
     pairs.lower[last] = file[at + 3];
     pairs.count += 1;
@@ -98,22 +66,24 @@ pub fn add_pr(mut pairs: Pairs, file: &[u8], at: usize) -> Pairs
 }
 
 // OB: the observable labels.
+#[tactic(auto, unfolding(rack::specs::Records::ob_says))]
 pub fn add_ob(file: &[u8], at: usize) -> Observable
     requires { ObIs file.now at }
     ensures { result ≡ ob_says file.now at }
 {
-    let mut flags = [0u8; 32];
+    let mut flags = [0; 32];
     mark_list(&mut flags, 0, 32, file, at + 2);
-    Observable { flags: flags }
+    Observable { flags }
 }
 
 // QF: one more set of bounds, in a row of its own.
+#[tactic(auto, unfolding(rack::specs::Records::qf_says))]
 pub fn add_qf(mut bounds: Bounds, file: &[u8], at: usize, places: u8) -> Bounds
     requires { (bounds.count < 8) × (places ≤ 8) × (qf_end places at ≤ length file.now) }
     ensures { result ≡ qf_says places bounds file.now at }
 {
-    let base = wide(bounds.count) * 8;
-    let width = wide(places);
+    let base = usize::from(bounds.count) * 8;
+    let width = usize::from(places);
     put_bounds(&mut bounds.least, base, file, at + 2, width);
     put_bounds(&mut bounds.most, base, file, at + 3, width);
     bounds.count += 1;
@@ -121,21 +91,21 @@ pub fn add_qf(mut bounds: Bounds, file: &[u8], at: usize, places: u8) -> Bounds
 }
 
 // LG: the log.
+#[tactic(auto, unfolding(rack::specs::Records::lg_says))]
 pub fn add_lg(file: &[u8], at: usize) -> Log
     requires { (byte file.now (at + 2) ≤ 40) × (lg_end file.now at ≤ length file.now) }
     ensures { result ≡ lg_says file.now at }
 {
-    let list = at + 2;
-    let count = file[list];
-    let mut labels = [0u8; 40];
-    copy(&mut labels, file, list + 1, wide(count));
+    let count = file[at + 2];
+    let labels = at + 3;
     Log {
-        count: count,
-        labels: labels,
+        count,
+        labels: fill_up(&file[labels..labels + usize::from(count)]),
     }
 }
 
 // The case of all zeros.
+#[tactic(auto, unfolding(rack::specs::Layout::case_of_zeros))]
 pub fn zero_case() -> Case
     ensures { result ≡ case_of_zeros }
 {
@@ -143,39 +113,39 @@ pub fn zero_case() -> Case
         net: Net {
             places: 0,
             cap: 0,
-            first: [0u8; 16],
+            first: [0; 16],
         },
         arcs: Arcs {
             count: 0,
-            labels: [0u8; 48],
-            pre: [0u8; 768],
-            post: [0u8; 768],
+            labels: [0; 48],
+            pre: [0; 768],
+            post: [0; 768],
         },
         pairs: Pairs {
             count: 0,
-            higher: [0u8; 32],
-            lower: [0u8; 32],
+            higher: [0; 32],
+            lower: [0; 32],
         },
-        observable: Observable { flags: [0u8; 32] },
+        observable: Observable { flags: [0; 32] },
         pattern: Net {
             places: 0,
             cap: 0,
-            first: [0u8; 8],
+            first: [0; 8],
         },
         links: Arcs {
             count: 0,
-            labels: [0u8; 16],
-            pre: [0u8; 128],
-            post: [0u8; 128],
+            labels: [0; 16],
+            pre: [0; 128],
+            post: [0; 128],
         },
         bounds: Bounds {
             count: 0,
-            least: [0u8; 64],
-            most: [0u8; 64],
+            least: [0; 64],
+            most: [0; 64],
         },
         log: Log {
             count: 0,
-            labels: [0u8; 40],
+            labels: [0; 40],
         },
     }
 }

@@ -9,7 +9,7 @@ use native.Mathlib.Numerals.{add-one}
 use lib.ListN.{length, take}
 use Rattle.std.proofs.Common.{Option, Some, None}
 use Rattle.rack.specs.Marks.{number_of}
-use Rattle.rack.specs.Records.{tr_says, px_says}
+use Rattle.rack.specs.Records.{arcs_says}
 use Rattle.rack.specs.Layout.{case_of_zeros, FieldsAre, end_at, added, RecordIs}
 use Rattle.rack.specs.Writing.{up_to, tr_bytes, px_bytes}
 use Rattle.rack.specs.declared.Case.{Case}
@@ -47,7 +47,7 @@ unread_kept En f n c a h u = all_read 9 c (omega arith)
 
 bytes_kept : (m : Mark) (f : List ℕ) (s : ℕ) (c : Case) (a : ℕ) → a + 2 ≤ length f → LettersOf m f a → Timely m s → FieldsAre m c f a → Formed.Kept s c
     → up_to (reachable (number_of m)) (segment c) ≡ take a f → so_far (Some m) (added m c f a) ≡ take (end_at m c f a) f
-unfolding so_far reachable repeats segment segments up_to tr_bytes tr_says px_bytes px_says
+unfolding so_far reachable repeats segment segments up_to tr_bytes px_bytes arcs_says
 bytes_kept Nt f s c a h le t w k e = close [] e (nt_spells f a le w)
 bytes_kept Tr f s c a h le t w k e =
     let d = c.arcs in

@@ -10,7 +10,7 @@ use lib.Dec.{T}
 use Rattle.walks.specs.Below.{all_below, table_from, every}
 use Rattle.rack.specs.Bytes.{filled, put, rising, marked}
 use Rattle.rack.specs.Marks.{mark_of, follows}
-use Rattle.rack.specs.Records.{nt_says, pt_says, tr_says, px_says, pr_says, ob_says, bounds, qf_says, observed, lg_says}
+use Rattle.rack.specs.Records.{net_says, arcs_says, pr_says, ob_says, bounds, qf_says, observed, lg_says}
 use Rattle.rack.specs.Layout.{case_of_zeros, ReadsAs}
 use Rattle.rack.specs.Writing.{listed, up_to, nt_bytes, tr_bytes, pr_bytes, ob_bytes, pt_bytes, px_bytes, qf_bytes, lg_bytes, bytes_of}
 use Rattle.rack.specs.declared.Case.{Case}
@@ -45,7 +45,7 @@ reads_as f None e t = absurd t
 reads_as f (Some c) e t = (c, parsed e)
 
 computed : T (found (parse 200 (bytes_of long_case) None case_of_zeros 0))
-unfolding found long_case all_below table_from every filled put rising marked mark_of follows nt_says pt_says tr_says px_says pr_says ob_says bounds qf_says observed lg_says case_of_zeros listed up_to nt_bytes tr_bytes pr_bytes ob_bytes pt_bytes px_bytes qf_bytes lg_bytes bytes_of list_tests net_tests arcs_tests rises_test pr_tests qf_tests lg_tests fields_test after_right parse
+unfolding found long_case all_below table_from every filled put rising marked mark_of follows net_says arcs_says pr_says ob_says bounds qf_says observed lg_says case_of_zeros listed up_to nt_bytes tr_bytes pr_bytes ob_bytes pt_bytes px_bytes qf_bytes lg_bytes bytes_of list_tests net_tests arcs_tests rises_test pr_tests qf_tests lg_tests fields_test after_right parse
 computed = tt
 
 -- "The longest file has 2,496 bytes.": a file of that length reads

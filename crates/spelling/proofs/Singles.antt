@@ -7,7 +7,7 @@ use native.Mathlib.Omega.{arith}
 use lib.ListN.{take, replicate}
 use lib.Seq.{get_or-set_same, get_or-set_other}
 use Rattle.rack.specs.Bytes.{byte, part, filled, list_at}
-use Rattle.rack.specs.Records.{NetIs, net_end, nt_says, pt_says, PrIs, pr_end, pr_says, ObIs, ob_end, ob_says, LgIs, lg_end, lg_says}
+use Rattle.rack.specs.Records.{NetIs, net_end, net_says, PrIs, pr_end, pr_says, ObIs, ob_end, ob_says, LgIs, lg_end, lg_says}
 use Rattle.rack.specs.Writing.{counted, up_to, nt_bytes, pr_bytes, ob_bytes, pt_bytes, lg_bytes}
 use Rattle.rack.specs.WellFormed.{PairsFit}
 use Rattle.rack.specs.declared.Pairs.{Pairs}
@@ -27,12 +27,12 @@ module _ (f : List ℕ) (a : ℕ) where
       (then (two f (a + 2) (a + 3) (a + 4) (byte f (a + 2)) (byte f (a + 3)) (omega arith) (omega arith) w.starts refl refl)
       (kept_spells most f (a + 4) (byte f (a + 2)) w.ends))
 
-  pub nt_spells : Letters 78 84 f a → NetIs 16 f a → Spells f a (nt_bytes (nt_says f a)) (net_end f a)
-  unfolding nt_bytes nt_says
+  pub nt_spells : Letters 78 84 f a → NetIs 16 f a → Spells f a (nt_bytes (net_says 16 f a)) (net_end f a)
+  unfolding nt_bytes net_says
   nt_spells = net_spells 78 84 16
 
-  pub pt_spells : Letters 80 84 f a → NetIs 8 f a → Spells f a (pt_bytes (pt_says f a)) (net_end f a)
-  unfolding pt_bytes pt_says
+  pub pt_spells : Letters 80 84 f a → NetIs 8 f a → Spells f a (pt_bytes (net_says 8 f a)) (net_end f a)
+  unfolding pt_bytes net_says
   pt_spells = net_spells 80 84 8
 
   -- ---- OB

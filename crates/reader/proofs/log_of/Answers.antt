@@ -17,7 +17,7 @@ slice_bounds-result-end c =
 
 pub returns-in-Whole : goal.returns-in-Whole
 returns-in-Whole c =
-    cut_shown c.args.file.ref_ptr _ c.wide-count.result (omega (arith, c.wide-count.ensures.0)) c.wide-count.ensures.0
+    cut_shown c.args.file.ref_ptr _ c.from-count.result (omega (arith, c.from-count.ensures)) c.from-count.ensures
     (given_whole c.read_case-reading.ensures c.in-Whole.is)
 
 pub returns-in-Refused : goal.returns-in-Refused

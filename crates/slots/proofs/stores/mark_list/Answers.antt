@@ -1,35 +1,34 @@
--- `slots::stores::mark_list` meets its contract. The loop's invariant: what is left of the list, marked into the rows as they are,
--- gives the same as the whole list marked into the rows as they were. Assumes nothing.
-use native.Mathlib.Omega.{arith}
-use Prim.Native.Nat.{ℕ, ◌+◌, ◌*◌}
-use mathlib.Core.Path.{refl, ap, ◌∙◌}
-use lib.ListN.{length-set}
+-- `slots::stores::mark_list` meets its contract. Assumes nothing.
+use Rattle.std.proofs.Common.{ℕ, ◌+◌, ◌*◌, ◌-◌, ◌∙◌, List, arith}
+use Rattle.std.proofs.lemmas.List.{at_drop_more, at_drop_all}
+use Rattle.std.proofs.lemmas.Grind.{common_steps}
 use Rattle.rack.specs.Bytes.{part, marked}
-use Rattle.rack.proofs.Stretches.{marked_turn, marked_ends}
-use Rattle.slots.proofs.Rows.{list_below}
+use Rattle.rack.proofs.WellFormedLists.{length_part}
+use Rattle.slots.proofs.Rows.{byte_of_part, list_below}
 use Rattle.slots.proofs.stores.mark_list.Goals as goal
-
-pub loop-i-init : goal.loop-i-init
-loop-i-init c = (omega arith, refl, refl)
 
 pub bounds-rows-base : goal.bounds-rows-base
 bounds-rows-base c =
-    let h = list_below c.requires.0 c.loop-i.i (omega arith) in
-    omega (arith, h)
+    let f = c.args.file.now in
+    let n = c.args.at + 1 + c.from.result - (c.args.at + 1) in
+    let i = c.loop-number.number-index in
+    let l = length_part f (c.args.at + 1) n (omega arith) in
+    let e = c.from-in-loop-number.ensures ∙ byte_of_part f (c.args.at + 1) n i (omega (arith, l)) in
+    let h = list_below c.requires.0 i (omega (arith, l)) in
+    omega (arith, e, h)
 
-pub loop-i-preserved : goal.loop-i-preserved
-loop-i-preserved c =
-    let base = c.args.row * c.args.width in (
-      omega arith,
-      simp length-set c.loop-i.invariant.1,
-      rw c.wide.ensures.0 (marked_turn c.args.file.now (c.args.at + 1) c.wide-count.result (omega arith) base c.loop-i.i c.args.rows.now c.loop-i.rows c.loop-i.invariant.2 (omega arith)),
-    )
-
-pub shape_of-rows : goal.shape_of-rows
-shape_of-rows c = c.loop-i.invariant.1
+pub loop-number-preserved : goal.loop-number-preserved
+unfolding marked
+loop-number-preserved c =
+    let base = c.args.row * c.args.width in
+    let list = part c.args.file.now (c.args.at + 1) (c.args.at + 1 + c.from.result - (c.args.at + 1)) in
+    let e = at_drop_more (λ (xs : List ℕ). marked base xs c.loop-number.rows) list c.loop-number.number-index 0 (omega arith) in
+    grind (arith, common_steps)
 
 pub returns : goal.returns
+unfolding marked
 returns c =
     let base = c.args.row * c.args.width in
-    let done = marked_ends c.args.file.now (c.args.at + 1) c.wide-count.result (omega arith) base c.loop-i.i c.args.rows.now c.loop-i.rows c.loop-i.invariant.2 (omega arith) in
-    (done ∙ ap (λ (k : ℕ). marked base (part c.args.file.now (c.args.at + 1) k) c.args.rows.now) c.wide-count.ensures.0, omega arith)
+    let list = part c.args.file.now (c.args.at + 1) (c.args.at + 1 + c.from.result - (c.args.at + 1)) in
+    let e = at_drop_all (λ (xs : List ℕ). marked base xs c.loop-number.rows) list c.loop-number.number-index (omega arith) in
+    grind (arith, common_steps)
