@@ -10,8 +10,8 @@ use Rattle.rack.specs.NetChecks.{NetRefuses, NetAccepts, pattern_order, product_
 use Rattle.rack.specs.Outcome.{zeroed}
 use Rattle.rack.specs.declared.Case.{Case}
 use Rattle.rack.specs.declared.Refusal.{Refusal}
-use Rattle.plan.specs.Plan.{planned}
 use Rattle.reach.specs.Table.{TableOf}
+use Rattle.admit.specs.declared.Opened.{Opened}
 
 -- ---- the checks 3 to 9 of a case that has been read
 
@@ -39,17 +39,17 @@ pub data OpenRefuses (f : List ℕ) (needed long : ℕ) : ℕ → ℕ → Type 0
   of_refused_file : {n m : ℕ} → needed ≤ long → RefusedFile f n m → OpenRefuses f needed long n m
 
 -- none speaks: the plan is that of the file's case, and the first n rows of the work room are its reachable product markings
-pub record Opened (f : List ℕ) (needed : ℕ) (work₀ plan work : List ℕ) (n : ℕ) : Type 0 where
+pub record OpenedIs (f : List ℕ) (needed : ℕ) (work₀ : List ℕ) (plan : Case) (work : List ℕ) (n : ℕ) : Type 0 where
   pub enough : needed ≤ length work₀
   pub long : length work ≡ length work₀
-  pub reads : ReadsAs f (planned plan)
-  pub passes : Passes (planned plan) work n
+  pub reads : ReadsAs f plan
+  pub passes : Passes plan work n
 
 -- the checks are made; what one of them that speaks has found so far may still stand in the work room
-abbrev pub CheckedSays : List ℕ → ℕ → List ℕ → List ℕ → List ℕ → Result ℕ Refusal → Type 0
-CheckedSays f needed work₀ plan work (Ok n) = Opened f needed work₀ plan work n
-CheckedSays f needed work₀ plan work (Err r) = (length work ≡ length work₀) × OpenRefuses f needed (length work₀) (number_of r) (beside_of r)
+abbrev pub CheckedSays : List ℕ → ℕ → List ℕ → List ℕ → Result Opened Refusal → Type 0
+CheckedSays f needed work₀ work (Ok o) = OpenedIs f needed work₀ o.plan work o.rows
+CheckedSays f needed work₀ work (Err r) = (length work ≡ length work₀) × OpenRefuses f needed (length work₀) (number_of r) (beside_of r)
 
-abbrev pub OpenSays : List ℕ → ℕ → List ℕ → List ℕ → List ℕ → Result ℕ Refusal → Type 0
-OpenSays f needed work₀ plan work (Ok n) = Opened f needed work₀ plan work n
-OpenSays f needed work₀ plan work (Err r) = (work ≡ zeroed work₀) × OpenRefuses f needed (length work₀) (number_of r) (beside_of r)
+abbrev pub OpenSays : List ℕ → ℕ → List ℕ → List ℕ → Result Opened Refusal → Type 0
+OpenSays f needed work₀ work (Ok o) = OpenedIs f needed work₀ o.plan work o.rows
+OpenSays f needed work₀ work (Err r) = (work ≡ zeroed work₀) × OpenRefuses f needed (length work₀) (number_of r) (beside_of r)

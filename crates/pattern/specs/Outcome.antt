@@ -1,6 +1,6 @@
 -- What the answers of the checks on priority pairs and pattern say of the case.
 -- Assumes nothing.
-use Rattle.std.specs.Prelude.{ℕ, ◌≡◌, List, Option, Some, None, Result, Ok, Err}
+use Rattle.std.specs.Prelude.{ℕ, ◌≡◌, Bool, List, Option, Some, None, Result, Ok, Err}
 use Rattle.rack.specs.NetChecks.{NetRefuses, NetAccepts, pattern_order}
 use Rattle.rack.specs.Refused.{number_of, beside_of}
 use Rattle.rack.specs.declared.Case.{Case}
@@ -9,7 +9,7 @@ use Rattle.rack.specs.declared.SystemTransition.{SystemTransition}
 use Rattle.pattern.specs.Chains.{OpenAt}
 
 -- a pair leads from a marked transition to t, which is not marked, or no pair leads so
-abbrev pub OpenSays : Case → List ℕ → Option SystemTransition → Type 0
+abbrev pub OpenSays : Case → List Bool → Option SystemTransition → Type 0
 OpenSays c marks (Some t) = OpenAt c marks t.0
 OpenSays c marks None = (t : ℕ) → OpenAt c marks t → ⊥
 

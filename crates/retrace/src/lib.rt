@@ -9,7 +9,6 @@ ghost use Rattle.rack.specs.Refusal.{PatternOver};
 ghost use Rattle.rack.specs.Refused.{number_of, beside_of};
 ghost use Rattle.rack.specs.WellFormed.{WellFormed};
 ghost use Rattle.rack.specs.ReplayOutcome.{ReplayIs, replay_of, replay_refused};
-ghost use Rattle.plan.specs.Plan.{planned};
 
 use crate::firing::fire;
 use engine::Product;
@@ -43,12 +42,12 @@ fn refused(refusal: Refusal) -> Replayed
 
 // Replays a run on a case whose nets have passed the checks.
 fn replay(plan: &Plan, run: &[u8], budget: u16) -> Replayed
-    requires well_formed { WellFormed (planned plan.now) }
-    requires fact { PatternOver (planned plan.now) → ⊥ }
-    ensures { result ≡ replay_of (planned plan.now) run.now budget }
+    requires well_formed { WellFormed plan.now }
+    requires fact { PatternOver plan.now → ⊥ }
+    ensures { result ≡ replay_of plan.now run.now budget }
 {
     let done = fire(plan, run, usize::from(budget));
-    let explains = done.fired == run.len() && done.at == plan::events(plan);
+    let explains = done.fired == run.len() && done.at == plan.events();
     Replayed {
         fired: done.fired,
         system: done.marking.system.tokens(),
