@@ -9,7 +9,6 @@ use Rattle.rack.specs.Outcome.{zeroed}
 use Rattle.rack.specs.VerdictOutcome.{VerdictIs}
 use Rattle.rack.specs.declared.Case.{Case}
 use Rattle.rack.specs.declared.Judged.{Judged}
-use Rattle.plan.specs.Plan.{planned}
 use Rattle.steps.specs.Walkable.{Ready}
 use Rattle.search.specs.Found.{SearchSays}
 use Rattle.search.specs.declared.Searched.{Searched}
@@ -18,7 +17,7 @@ use Rattle.judge.specs.CaseJudged.{refused_by, Shown, CaseJudged, pattern_refuse
 use Rattle.judge.proofs.Judging.{short_room, broken_file, verdict_of}
 
 -- what the search asks holds of a file that was opened
-pub ready : {f work₀ plan work : List ℕ} {n : ℕ} → Opened f work_room work₀ plan work n → Ready (planned plan) work n
+pub ready : {f work₀ plan work : List ℕ} {n : ℕ} → Opened f work_room work₀ plan work n → Ready plan work n
 ready o = let p = o.passes in record { well = p.well; nets = p.nets; table = p.table; long = omega (arith, o.long, o.enough) }
 
 nets_refuse : {c : Case} {matching other : List ℕ} {n m : ℕ} → NetsRefuse c n m → CaseJudged c matching other (refused_by n m) matching other
@@ -38,8 +37,8 @@ module _ (f matching other work : List ℕ) where
       (subst (VerdictIs f matching other work (refused_by n m) matching other) (sym o.0) (refused_outcome o.1))
 
   -- THE VERDICT of the call: what is shown after the checks and the search, and the work room cleared after them
-  pub shown_outcome : {plan room after : List ℕ} {n : ℕ} {found : Searched} {y : Judged} {a b v : List ℕ} → Opened f work_room work plan room n → SearchSays (planned plan) room n after found
-      → Shown (planned plan) matching other y a b → v ≡ zeroed after → VerdictIs f matching other work y a b v
+  pub shown_outcome : {plan room after : List ℕ} {n : ℕ} {found : Searched} {y : Judged} {a b v : List ℕ} → Opened f work_room work plan room n → SearchSays plan room n after found
+      → Shown plan matching other y a b → v ≡ zeroed after → VerdictIs f matching other work y a b v
   shown_outcome {y = y} {a = a} {b = b} {v = v} o g s z =
       let e : v ≡ zeroed work = z ∙ ap (λ (n : ℕ). replicate n 0) (g.long ∙ o.long) in
       subst (VerdictIs f matching other work y a b) (sym e) (verdict_of f matching other work o.enough o.reads (shown o.passes.nets s))

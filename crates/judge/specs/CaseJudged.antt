@@ -1,18 +1,25 @@
 -- The verdict on a case that has been read: what the parts of the call promise one another. proofs/Judging.antt leads from here to the outcome
 -- of the whole call.
 -- Assumes nothing.
-use Rattle.std.specs.Prelude.{ℕ, ◌<◌, ◌≤◌, true, false, List, length}
+use Rattle.std.specs.Prelude.{ℕ, ◌<◌, ◌≤◌, true, false, List, length, Result, Ok, Err}
 use Rattle.rack.specs.Verdict.{FirstOfKind, NoneExplains, IsFaulty, IsSafe, IsAmbiguous}
 use Rattle.rack.specs.Refusal.{NetsPass}
 use Rattle.rack.specs.NetChecks.{NetRefuses, NetAccepts, pattern_order, product_order}
 use Rattle.rack.specs.Outcome.{holding}
+use Rattle.rack.specs.Refused.{judged_of}
 use Rattle.rack.specs.declared.Case.{Case}
+use Rattle.rack.specs.declared.Refusal.{Refusal}
 use Rattle.rack.specs.declared.Judged.{Judged}
 use Rattle.rack.specs.declared.Verdict.TheVariants as Verdict
 
 -- the answer of a refusal
 abbrev pub refused_by : ℕ → ℕ → Judged
 refused_by n m = record { verdict = Verdict.Refused n m; matching = 0; other = 0 }
+
+-- the answer: what is shown, or the refusal
+abbrev pub answer_of : Result Judged Refusal → Judged
+answer_of (Ok j) = j
+answer_of (Err r) = judged_of r
 
 -- the verdict on a case whose nets pass the checks 3 to 9, with the two witness rooms before and after
 pub data Shown (c : Case) (matching other : List ℕ) : Judged → List ℕ → List ℕ → Type 0 where

@@ -1,6 +1,6 @@
 -- What the verdict takes from the search: of each kind the first explanation, by where the search met its end; or that there is none.
 -- Assumes nothing.
-use Rattle.std.specs.Prelude.{ℕ, ◌≡◌, Bool, List, length}
+use Rattle.std.specs.Prelude.{ℕ, ◌≡◌, ◌≤◌, ◌<◌, Bool, List, length, Option, Some, None, Result, Ok, Err}
 use Rattle.walks.specs.Back.{BackTo}
 use Rattle.rack.specs.Run.{Explains, matches}
 use Rattle.rack.specs.Keep.{moves, onto}
@@ -10,7 +10,9 @@ use Rattle.steps.specs.Nodes.{node_at}
 use Rattle.search.specs.Nodes.{id_at}
 use Rattle.search.specs.GoingBack.{MetAt}
 use Rattle.search.specs.declared.Place.{Place}
-use Rattle.search.specs.declared.Place.TheVariants.{At, Nowhere}
+use Rattle.search.specs.Found.{RunWritten}
+use Rattle.rack.specs.declared.Refusal.{Refusal}
+use Rattle.rack.specs.declared.Refusal.TheVariants.{LentRoom}
 
 -- the first explanation of the kind k is `depth` firings long, and going back from the node at the rank gives it
 pub record KindAt (c : Case) (room : List ℕ) (n met : ℕ) (k : Bool) (rank depth : ℕ) : Type 0 where
@@ -24,9 +26,34 @@ pub record KindAt (c : Case) (room : List ℕ) (n met : ℕ) (k : Bool) (rank de
 abbrev pub NoneOfKind : Case → Bool → Type 0
 NoneOfKind c k = (s : List ℕ) → Explains c s → matches c s ≡ k → ⊥
 
-abbrev pub KindIs : Case → List ℕ → ℕ → ℕ → Bool → Place → Type 0
-KindIs c room n met k (At rank depth) = KindAt c room n met k rank depth
-KindIs c room n met k Nowhere = NoneOfKind c k
+abbrev pub KindIs : Case → List ℕ → ℕ → ℕ → Bool → Option Place → Type 0
+KindIs c room n met k (Some p) = KindAt c room n met k p.rank p.depth
+KindIs c room n met k None = NoneOfKind c k
 
-pub record KindSays (c : Case) (room : List ℕ) (n met : ℕ) (k : Bool) (p : Place) : Type 0 where
+pub record KindSays (c : Case) (room : List ℕ) (n met : ℕ) (k : Bool) (p : Option Place) : Type 0 where
   pub is : KindIs c room n met k p
+
+-- the length of the run to the place, 0 where there is none; or the refusal, where it does not fit
+abbrev pub LengthIs : Option Place → List ℕ → Result ℕ Refusal → Type 0
+LengthIs None out r = r ≡ Ok 0
+LengthIs (Some p) out (Ok l) = (l ≡ p.depth) × (p.depth ≤ length out)
+LengthIs (Some p) out (Err e) = (e ≡ LentRoom p.depth) × (length out < p.depth)
+
+pub record LengthSays (p : Option Place) (out : List ℕ) (r : Result ℕ Refusal) : Type 0 where
+  pub is : LengthIs p out r
+
+-- the run to the place, if there is one, can be written
+abbrev pub CanWrite : Case → List ℕ → ℕ → ℕ → Option Place → List ℕ → Type 0
+CanWrite c room n met (Some p) out = MetAt c room n met p.rank p.depth × (p.depth ≤ length out)
+CanWrite c room n met None out = Unit {0}
+
+pub record ToWrite (c : Case) (room : List ℕ) (n met : ℕ) (p : Option Place) (out : List ℕ) : Type 0 where
+  pub is : CanWrite c room n met p out
+
+-- it has been written; where there is none, nothing has changed
+abbrev pub IsWritten : Case → List ℕ → Option Place → List ℕ → List ℕ → Type 0
+IsWritten c room (Some p) out₀ out = RunWritten c room p.rank out₀ out
+IsWritten c room None out₀ out = out ≡ out₀
+
+pub record PlaceWritten (c : Case) (room : List ℕ) (p : Option Place) (out₀ out : List ℕ) : Type 0 where
+  pub is : IsWritten c room p out₀ out

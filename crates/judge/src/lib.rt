@@ -4,124 +4,76 @@
 
 #![tactic(auto)]
 
-ghost use Rattle.std.specs.Prelude.{◌≡◌, true, false, List, ℕ};
+ghost use Rattle.std.specs.Prelude.{true, false};
 ghost use Rattle.rack.specs.VerdictOutcome.{VerdictIs};
-ghost use Rattle.plan.specs.Plan.{planned};
 ghost use Rattle.steps.specs.Walkable.{Ready};
-ghost use Rattle.judge.specs.CaseJudged.{refused_by, Shown};
-ghost use Rattle.judge.specs.Kinds.{KindAt, NoneOfKind, KindSays};
+ghost use Rattle.judge.specs.CaseJudged.{answer_of, Shown};
+ghost use Rattle.judge.specs.Kinds.{KindSays, LengthSays, ToWrite, PlaceWritten};
 
+use admit::Answer;
 use plan::{PLAN, Plan};
-use rack::{Judged, REFUSED_LENT_ROOM, REFUSED_UNEXPLAINED, Verdict, WORK_ROOM};
-use search::Place;
+use rack::{Judged, Refusal, Verdict, WORK_ROOM};
+use search::{Place, Searched};
 
-// The answer of a refusal: its number and the number beside it, and no run shown.
-fn refused(number: u8, beside: usize) -> Judged
-    ensures { result ≡ refused_by number beside }
+// How long the run to a place is, 0 where there is none: it has to fit the room that is lent for it.
+fn length_in(place: Option<Place>, out: &[u8]) -> Result<usize, Refusal>
+    ensures { LengthSays place out.now result }
 {
-    Judged {
-        verdict: Verdict::Refused(number, beside),
-        matching: 0,
-        other: 0,
+    let Some(place) = place else {
+        return Ok(0);
+    };
+    if out.len() < place.depth {
+        return Err(Refusal::LentRoom(place.depth));
     }
+    Ok(place.depth)
 }
 
-// No explanation matches: the first other one is shown, if there is one and it fits its room.
-fn without_matching<'r, 'a, 'o>(
+// Writes the run to a place, if there is one, to the front of out.
+fn write<'r, 'a, 'o>(
     plan: &'a Plan,
+    work: &'r [u8],
     rows: usize,
     met: usize,
-    second: Place,
-    other: &'o mut [u8],
-    work: &'r [u8],
-) -> Judged
-    requires ready { Ready (planned plan.now) work.now rows }
-    requires none_of_kind { NoneOfKind (planned plan.now) true }
-    requires kind_says { KindSays (planned plan.now) work.now rows met false second }
-    ensures { (matching : List ℕ) → Shown (planned plan.now) matching other.old result matching other.new }
+    place: Option<Place>,
+    out: &'o mut [u8],
+)
+    requires ready { Ready plan.now work.now rows }
+    requires to_write { ToWrite plan.now work.now rows met place out.old }
+    ensures { PlaceWritten plan.now work.now place out.old out.new }
 {
-    match second {
-        Place::Nowhere => refused(REFUSED_UNEXPLAINED, 0),
-        Place::At(rank, depth) => {
-            if other.len() < depth {
-                return refused(REFUSED_LENT_ROOM, depth);
-            }
-            search::write_run(plan, work, rows, met, rank, depth, other);
-            Judged {
-                verdict: Verdict::Safe,
-                matching: 0,
-                other: depth,
-            }
-        }
+    if let Some(place) = place {
+        search::write_run(plan, work, rows, met, place.rank, place.depth, out);
     }
 }
 
-// Some explanation matches, and the first such one fits its room: the first other one is shown too, if there is one and it fits its room.
-fn with_matching<'r, 'a, 'm, 'o>(
-    plan: &'a Plan,
-    rows: usize,
-    met: usize,
-    rank: usize,
-    depth: usize,
-    second: Place,
-    matching: &'m mut [u8],
-    other: &'o mut [u8],
-    work: &'r [u8],
-) -> Judged
-    requires ready { Ready (planned plan.now) work.now rows }
-    requires kind_at { KindAt (planned plan.now) work.now rows met true rank depth }
-    requires kind_says { KindSays (planned plan.now) work.now rows met false second }
-    ensures { Shown (planned plan.now) matching.old other.old result matching.new other.new }
-{
-    if matching.len() < depth {
-        return refused(REFUSED_LENT_ROOM, depth);
-    }
-    match second {
-        Place::Nowhere => {
-            search::write_run(plan, work, rows, met, rank, depth, matching);
-            Judged {
-                verdict: Verdict::Faulty,
-                matching: depth,
-                other: 0,
-            }
-        }
-        Place::At(other_rank, other_depth) => {
-            if other.len() < other_depth {
-                return refused(REFUSED_LENT_ROOM, other_depth);
-            }
-            search::write_run(plan, work, rows, met, rank, depth, matching);
-            search::write_run(plan, work, rows, met, other_rank, other_depth, other);
-            Judged {
-                verdict: Verdict::Ambiguous,
-                matching: depth,
-                other: other_depth,
-            }
-        }
-    }
-}
-
-// The verdict by the first explanation of each kind that the search has met.
+// The verdict by the first explanation of each kind that the search has met: they are shown where each fits its room.
 fn show<'r, 'a, 'm, 'o>(
     plan: &'a Plan,
+    work: &'r [u8],
     rows: usize,
-    met: usize,
-    first: Place,
-    second: Place,
+    found: Searched,
     matching: &'m mut [u8],
     other: &'o mut [u8],
-    work: &'r [u8],
-) -> Judged
-    requires ready { Ready (planned plan.now) work.now rows }
-    requires kind_says { KindSays (planned plan.now) work.now rows met true first }
-    requires kind_says_2 { KindSays (planned plan.now) work.now rows met false second }
-    ensures { Shown (planned plan.now) matching.old other.old result matching.new other.new }
+) -> Result<Judged, Refusal>
+    requires ready { Ready plan.now work.now rows }
+    requires matching_says { KindSays plan.now work.now rows found.met true found.matching }
+    requires other_says { KindSays plan.now work.now rows found.met false found.other }
+    ensures { Shown plan.now matching.old other.old (answer_of result) matching.new other.new }
 {
-    match first {
-        Place::Nowhere => without_matching(plan, rows, met, second, other, work),
-        Place::At(rank, depth) => {
-            with_matching(plan, rows, met, rank, depth, second, matching, other, work)
-        }
-    }
+    let verdict = match (found.matching, found.other) {
+        (Some(_), None) => Verdict::Faulty,
+        (None, Some(_)) => Verdict::Safe,
+        (Some(_), Some(_)) => Verdict::Ambiguous,
+        (None, None) => return Err(Refusal::Unexplained),
+    };
+    let judged = Judged {
+        verdict,
+        matching: length_in(found.matching, matching)?,
+        other: length_in(found.other, other)?,
+    };
+    write(plan, work, rows, found.met, found.matching, matching);
+    write(plan, work, rows, found.met, found.other, other);
+    Ok(judged)
 }
 
 // The verdict on a case file. The run that is shown of each kind is written to the front of its room, one byte for each firing, and nothing
@@ -130,17 +82,21 @@ pub fn judge(file: &[u8], matching: &mut [u8], other: &mut [u8], work: &mut [u8]
     ensures { VerdictIs file.now matching.old other.old work.old result matching.new other.new work.new }
 {
     let mut plan = [0u64; PLAN];
-    let answer = admit::open(file, WORK_ROOM, &mut plan, work);
-    match answer {
-        Err(refusal) => refused(refusal.number(), refusal.beside()),
-        Ok(rows) => {
-            let found = search::search(&plan, work, rows);
-            let met = found.met;
-            let first = found.matching;
-            let second = found.other;
-            let judged = show(&plan, rows, met, first, second, matching, other, work);
-            room::clear(work);
-            judged
+    let rows = match admit::open(file, WORK_ROOM, &mut plan, work) {
+        Answer::Table(rows) => rows,
+        Answer::Refused(number, beside) => {
+            return Judged {
+                verdict: Verdict::Refused(number, beside),
+                matching: 0,
+                other: 0,
+            };
         }
+    };
+    let found = search::search(&plan, work, rows);
+    let shown = show(&plan, work, rows, found, matching, other);
+    room::clear(work);
+    match shown {
+        Ok(judged) => judged,
+        Err(refusal) => Judged::from(refusal),
     }
 }

@@ -5,6 +5,8 @@ use Rattle.rack.specs.Refusal.{Check, number, work-room, layout, cycle, pattern-
 use Rattle.rack.specs.Refusal as checks
 use Rattle.rack.specs.declared.Refusal.{Refusal}
 use Rattle.rack.specs.declared.Refusal.TheVariants as Refused
+use Rattle.rack.specs.declared.Verdict.TheVariants as Verdict
+use Rattle.rack.specs.declared.Judged.{Judged}
 
 -- the check that speaks
 abbrev pub check_of : Refusal → Check
@@ -32,3 +34,7 @@ abbrev pub beside_of : Refusal → ℕ
 beside_of (Refused.Layout n) = n
 beside_of (Refused.LentRoom n) = n
 beside_of r = 0
+
+-- the verdict's answer: no run is shown
+abbrev pub judged_of : Refusal → Judged
+judged_of r = record { verdict = Verdict.Refused (number_of r) (beside_of r); matching = 0; other = 0 }

@@ -6,7 +6,7 @@
 
 ghost use Rattle.std.specs.Prelude.{◌≡◌, ◌<◌};
 ghost use Rattle.rack.specs.Marks as marks;
-ghost use Rattle.rack.specs.Refused.{number_of, beside_of};
+ghost use Rattle.rack.specs.Refused.{number_of, beside_of, judged_of};
 
 // The refusal numbers, as `number` in specs/Refusal.antt has them.
 pub const REFUSED_WORK_ROOM: u8 = 1;
@@ -236,6 +236,18 @@ pub struct Judged {
     pub verdict: Verdict,
     pub matching: usize,
     pub other: usize,
+}
+
+impl From<Refusal> for Judged {
+    ghost from_gives = { λ r j. j ≡ judged_of r };
+
+    fn from(refusal: Refusal) -> Judged {
+        Judged {
+            verdict: Verdict::Refused(refusal.number(), refusal.beside()),
+            matching: 0,
+            other: 0,
+        }
+    }
 }
 
 // Listing: an explanation that matches or one that does not, with its length; the end; or the refusal.
