@@ -2,101 +2,53 @@
 
 #![tactic(auto)]
 
-ghost use Rattle.std.specs.Prelude.{◌≡◌, ◌≤◌};
-ghost use Rattle.arguments.specs.Numbers.{spelled, NumberSays};
+ghost use Rattle.std.specs.Prelude.{◌≡◌, ◌≤◌, IfSome};
+ghost use Rattle.arguments.specs.Numbers.{spelled};
 
 use std::env::{Env, FillError};
-
-// The number that an argument spells, or none that is asked for.
-#[derive(Clone, Copy)]
-pub enum Spelled {
-    Number(usize),
-    Nothing,
-}
-
-// The first and the last digit in ASCII, and how many there are.
-const ZERO: usize = 48;
-
-const NINE: usize = 57;
-
-const TEN: usize = 10;
 
 // No more digits of an argument are looked at.
 const LONGEST: usize = 32;
 
-// A byte as a number.
-fn wide(x: u8) -> usize
-    ensures { result ≡ x }
-{
-    x as usize
-}
-
-// The number that decimal digits spell, if there is any and it is at most `most`. The tests stand before the product, so that it never wraps.
-fn number(digits: &[u8], most: usize) -> Spelled
+// The number that decimal digits spell, if there is any and it is at most `most`.
+// Kept: `str::parse` takes `+1` too, which `spelled` does not.
+fn number(digits: &[u8], most: usize) -> Option<usize>
     ensures { result ≡ spelled digits.now most }
 {
-    if digits.len() == 0 {
-        return Spelled::Nothing;
+    if digits.is_empty() {
+        return None;
     }
-    let mut value: usize = 0;
-    let mut i: usize = 0;
-    while i < digits.len() {
-        let byte = wide(digits[i]);
-        if byte < ZERO {
-            return Spelled::Nothing;
+    let mut value = 0usize;
+    for digit in digits {
+        if !digit.is_ascii_digit() {
+            return None;
         }
-        if NINE < byte {
-            return Spelled::Nothing;
-        }
-        let digit = byte - ZERO;
-        if most < digit {
-            return Spelled::Nothing;
-        }
-        if (most - digit) / TEN < value {
-            return Spelled::Nothing;
-        }
-        value = value * TEN + digit;
-        i += 1;
+        value = value
+            .checked_mul(10)?
+            .checked_add(usize::from(digit - b'0'))?;
     }
-    Spelled::Number(value)
-}
-
-// How many bytes an argument puts at the front of the room: none where it is missing or longer than the room.
-fn bytes_of(rt: &impl Env, i: usize, room: &mut [u8; LONGEST]) -> usize
-    ensures { result ≤ 32 }
-{
-    match rt.arg(i, room) {
-        Ok(n) => n,
-        Err(_) => 0,
-    }
+    if value <= most { Some(value) } else { None }
 }
 
 // The number that argument i spells, if there is that argument, in at most 32 digits, and it spells one that is at most `most`. What the
 // arguments are no contract can say; `number` is proved to read them as `spelled` does.
-pub fn argument(rt: &impl Env, i: usize, most: usize) -> Spelled
-    ensures { NumberSays most result }
+pub fn argument(rt: &impl Env, i: usize, most: usize) -> Option<usize>
+    ensures { IfSome result (λ n. n ≤ most) }
 {
-    let mut digits = [0u8; LONGEST];
-    let n = bytes_of(rt, i, &mut digits);
-    number(&digits[..n], most)
+    let mut room = [0u8; LONGEST];
+    let n = rt.arg(i, &mut room).ok()?;
+    number(&room[..n], most)
 }
 
 // Whether there is an argument i, of whatever length.
 fn stands(rt: &impl Env, i: usize) -> bool {
     let mut room = [0u8; 1];
-    match rt.arg(i, &mut room) {
-        Ok(_) => true,
-        Err(FillError::TooLong) => true,
-        Err(FillError::NotPresent) => false,
-    }
+    !matches!(rt.arg(i, &mut room), Err(FillError::NotPresent))
 }
 
 // How many arguments there are, the program's name among them.
 pub fn count(rt: &impl Env) -> usize {
-    for i in 0..usize::MAX {
-        if !stands(rt, i) {
-            return i;
-        }
-    }
-    usize::MAX
+    (0..usize::MAX)
+        .find(|i| !stands(rt, *i))
+        .unwrap_or(usize::MAX)
 }

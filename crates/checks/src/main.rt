@@ -1,10 +1,11 @@
-// checks: reads a case file on standard input and prints the first of the refusals 2 to 9 that speaks, or `accepted` and the number of
-// reachable product markings. It keeps one byte more than the longest file has.
+// checks: reads a case file on standard input and prints the first of the refusals 2 to 9 that speaks, or `accepted` and
+// the number of reachable product markings. It keeps one byte more than the longest file has.
 
 #![tactic(auto)]
 
 use plan::PLAN;
 use rack::{LONGEST_FILE, WORK_ROOM};
+use report::Refused;
 use std::io;
 
 fn main(rt: HostRuntime) -> io::Result<()> {
@@ -12,13 +13,8 @@ fn main(rt: HostRuntime) -> io::Result<()> {
     let mut plan = [0u64; PLAN];
     let mut work = [0u8; WORK_ROOM];
     let n = input::read_full(&mut rt.stdin(), &mut file)?;
-    let answer = admit::open(&file[..n], WORK_ROOM, &mut plan, &mut work);
-    match answer {
-        Ok(rows) => {
-            report::text(&rt, b"accepted ")?;
-            report::number(&rt, rows)?;
-            report::line_end(&rt)
-        }
-        Err(refusal) => report::refused(&rt, refusal.number(), refusal.beside()),
+    match admit::open(&file[..n], WORK_ROOM, &mut plan, &mut work) {
+        Ok(rows) => println!(rt; "accepted {rows}"),
+        Err(refusal) => println!(rt; "{}", Refused::from(refusal)),
     }
 }

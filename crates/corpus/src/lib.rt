@@ -1,106 +1,66 @@
-// Reads a corpus: numbers of one, two or three bytes, the low byte first, and parts, each with its length in three bytes before it. The
-// second program writes the corpus, and what it says of each entry. Beside that: filling a room with a byte, and looking whether it still
-// holds it. What is read no contract can say: it comes from outside. The contracts fix the range of what is
-// read, and all that `fill` and `still` do.
+// Reads a corpus: numbers, the low byte first, and parts, each with its length in three bytes before it. The second program writes the corpus,
+// and what it says of each entry. Beside that: looking whether a room still holds the byte that it was filled with. What is read no contract
+// can say: it comes from outside. The contracts fix the range of what is read, and all that `still` does.
 
 #![tactic(auto)]
 
-ghost use Rattle.std.specs.Prelude.{◌≡◌, length, replicate, IfOk, OnErr};
+ghost use Rattle.std.specs.Prelude.{◌≡◌, ◌<◌, ◌≤◌, ◌^◌, length, IfOk, IfSome, OnErr};
 ghost use Rattle.walks.specs.Says.{Says};
-ghost use Rattle.corpus.specs.Takes.{TakenSays, ReadSays};
+ghost use Rattle.corpus.specs.Takes.{ReadSays};
 ghost use Rattle.corpus.specs.Rooms.{Still};
 
 use input::read_full;
-use rack::wide;
 use std::fs::File;
 use std::io;
 use std::io::Read;
 use std::rt::Files;
-
-// A part of the corpus was read into the room, so many bytes of it; or the corpus ends.
-#[derive(Clone, Copy)]
-pub enum Taken {
-    Of(usize),
-    Done,
-}
-
-// What stands for a number where the corpus ends: more than three bytes hold, and more than any room has.
-pub const PAST: usize = 16777216;
 
 // Opens the corpus of the program that is run.
 pub fn open<R: Files>(rt: &R) -> io::Result<R::File> {
     File::open(rt, "corpus")
 }
 
-// A number of one byte, or PAST.
-pub fn one<R: Read>(from: &mut R) -> io::Result<usize>
-    ensures { IfOk result (ReadSays 256) }
+// The number that bytes hold.
+fn held(bytes: &[u8]) -> usize
+    requires { length bytes.now ≤ 8 }
+    ensures { result < 256 ^ length bytes.now }
 {
-    let mut bytes = [0u8; 1];
-    if read_full(from, &mut bytes)? < 1 {
-        return Ok(PAST);
+    let mut n = 0;
+    for byte in bytes.iter().rev() {
+        n = n * 256 + usize::from(*byte);
     }
-    Ok(wide(bytes[0]))
+    n
 }
 
-// A number of two bytes, or PAST.
-pub fn two<R: Read>(from: &mut R) -> io::Result<usize>
-    ensures { IfOk result (ReadSays 65536) }
+// A number of so many bytes, or none where the corpus ends.
+pub fn number<const BYTES: usize>(from: &mut impl Read) -> io::Result<Option<usize>>
+    requires { BYTES ≤ 8 }
+    ensures { IfOk result (ReadSays (256 ^ BYTES)) }
 {
-    let mut bytes = [0u8; 2];
-    if read_full(from, &mut bytes)? < 2 {
-        return Ok(PAST);
+    let mut bytes = [0u8; BYTES];
+    if read_full(from, &mut bytes)? < BYTES {
+        return Ok(None);
     }
-    Ok(wide(bytes[0]) + 256 * wide(bytes[1]))
-}
-
-// A number of three bytes, or PAST.
-pub fn three<R: Read>(from: &mut R) -> io::Result<usize>
-    ensures { IfOk result (ReadSays 16777216) }
-{
-    let mut bytes = [0u8; 3];
-    if read_full(from, &mut bytes)? < 3 {
-        return Ok(PAST);
-    }
-    Ok(wide(bytes[0]) + 256 * wide(bytes[1]) + 65536 * wide(bytes[2]))
+    Ok(Some(held(&bytes)))
 }
 
 // The next part, with its length in three bytes before it. A part that is longer than the room ends the corpus.
-pub fn part<R: Read>(from: &mut R, room: &mut [u8]) -> io::Result<Taken>
-    ensures ok { IfOk result (TakenSays (length room.new)) }
+pub fn part(from: &mut impl Read, room: &mut [u8]) -> io::Result<Option<usize>>
+    ensures ok { IfOk result (λ part. IfSome part (λ n. n ≤ length room.new)) }
     ensures err { OnErr result (length room.new ≡ length room.old) }
 {
-    let n = three(from)?;
-    if room.len() < n {
-        return Ok(Taken::Done);
+    let Some(n) = number::<3>(from)? else {
+        return Ok(None);
+    };
+    if room.len() < n || read_full(from, &mut room[..n])? < n {
+        return Ok(None);
     }
-    if read_full(from, &mut room[..n])? < n {
-        return Ok(Taken::Done);
-    }
-    Ok(Taken::Of(n))
-}
-
-// Makes every byte of a room v.
-pub fn fill(room: &mut [u8], v: u8)
-    ensures { room.new ≡ replicate (length room.old) v }
-{
-    let mut i: usize = 0;
-    while i < room.len() {
-        room[i] = v;
-        i += 1;
-    }
+    Ok(Some(n))
 }
 
 // Whether every byte of a room from `from` on is v.
 pub fn still(room: &[u8], from: usize, v: u8) -> bool
     ensures { Says result (Still room.now from v) }
 {
-    let mut i = from;
-    while i < room.len() {
-        if room[i] != v {
-            return false;
-        }
-        i += 1;
-    }
-    true
+    room.iter().skip(from).all(|byte| *byte == v)
 }

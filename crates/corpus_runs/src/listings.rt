@@ -1,8 +1,8 @@
-// A file, what the listing is asked, and the rooms that are lent. Prints the run that it gives and its mark, `end`, or the refusal. The room for
-// the run is lent full of 170, the work room full of 255; the line says so if anything beyond the run given has changed, or the work room is
-// not all zeros afterwards.
-use corpus::Taken;
+// A file, what the listing is asked, and the rooms that are lent. Prints the run that it gives and its mark, `end`, or
+// the refusal. The room for the run is lent full of 170, the work room full of 255; the line says so if anything beyond
+// the run given has changed, or the work room is not all zeros afterwards.
 use rack::Listed;
+use report::{Listing, first};
 use std::io;
 use std::io::Read;
 
@@ -12,7 +12,7 @@ const FULL: u8 = 170;
 const WORK_FULL: u8 = 255;
 
 // What is asked: the limit, whether after a given run and not from the start, and the lengths of the two rooms.
-#[derive(Clone, Copy)]
+#[derive(Clone, Copy, Debug, PartialEq, Eq)]
 struct Asking {
     limit: usize,
     after: bool,
@@ -20,138 +20,54 @@ struct Asking {
     work: usize,
 }
 
-// A run that is given, with the letter of its mark.
-fn print_run(rt: &impl Print, letter: &[u8], room: &[u8], length: usize) -> io::Result<()> {
-    report::text(rt, letter)?;
-    report::run(rt, report::first(room, length))
+// Reads what is asked; none where the corpus ends.
+fn asked(from: &mut impl Read) -> io::Result<Option<Asking>> {
+    let limit = corpus::number::<3>(from)?;
+    let after = corpus::number::<1>(from)?;
+    let room = corpus::number::<2>(from)?;
+    let work = corpus::number::<3>(from)?;
+    let (Some(limit), Some(after), Some(room), Some(work)) = (limit, after, room, work) else {
+        return Ok(None);
+    };
+    Ok(Some(Asking {
+        limit,
+        after: after == 1,
+        room,
+        work,
+    }))
 }
 
-// The answer, and how many bytes of the room it gives.
-fn print(rt: &impl Print, listed: Listed, room: &[u8]) -> io::Result<usize> {
-    match listed {
-        Listed::Matching(n) => {
-            print_run(rt, b"F ", room, n)?;
-            Ok(n)
-        }
-        Listed::Other(n) => {
-            print_run(rt, b"C ", room, n)?;
-            Ok(n)
-        }
-        Listed::End => {
-            report::text(rt, b"end")?;
-            Ok(0)
-        }
-        Listed::Refused(number, beside) => {
-            report::refusal(rt, number, beside)?;
-            Ok(0)
-        }
-    }
-}
-
-// Says what is wrong with the rooms after a run of this length was given, if anything is.
-fn look(rt: &impl Print, length: usize, room: &[u8], work: &[u8]) -> io::Result<()> {
-    if !corpus::still(room, length, FULL) {
-        report::text(rt, b", room changed")?;
-    }
-    if !corpus::still(work, 0, 0) {
-        report::text(rt, b", work room not zeros")?;
-    }
-    report::line_end(rt)
-}
-
-// The listing that is asked.
-fn list(
-    file: &[u8],
-    limit: usize,
-    after: bool,
-    given: &[u8],
-    room: &mut [u8],
-    work: &mut [u8],
-) -> Listed {
-    if after {
-        return listing::next(file, limit, given, room, work);
-    }
-    listing::first(file, limit, room, work)
-}
-
-// The line of one entry.
+// The line of one entry: after the given run, or from the start where there is none.
 fn answer(
     rt: &impl Print,
     file: &[u8],
     limit: usize,
-    after: bool,
-    given: &[u8],
+    given: Option<&[u8]>,
     room: &mut [u8],
     work: &mut [u8],
 ) -> io::Result<()> {
-    corpus::fill(room, FULL);
-    corpus::fill(work, WORK_FULL);
-    let listed = list(file, limit, after, given, room, work);
-    let length = print(rt, listed, room)?;
-    look(rt, length, room, work)
-}
-
-// Asks of the file in the rooms of the asked lengths, if the rooms that are at hand have them.
-fn with_rooms(
-    rt: &impl Print,
-    file: &[u8],
-    asking: Asking,
-    given: &[u8],
-    room: &mut [u8],
-    work: &mut [u8],
-) -> io::Result<()> {
-    let r = asking.room;
-    let w = asking.work;
-    if room.len() < r {
-        return Ok(());
+    room.fill(FULL);
+    work.fill(WORK_FULL);
+    let listed = match given {
+        Some(given) => listing::next(file, limit, given, room, work),
+        None => listing::first(file, limit, room, work),
+    };
+    let length = match listed {
+        Listed::Matching(n) | Listed::Other(n) => n,
+        Listed::End | Listed::Refused(_, _) => 0,
+    };
+    print!(rt; "{}", Listing { listed, room })?;
+    if !corpus::still(room, length, FULL) {
+        print!(rt; ", room changed")?;
     }
-    if work.len() < w {
-        return Ok(());
+    if !corpus::still(work, 0, 0) {
+        print!(rt; ", work room not zeros")?;
     }
-    answer(
-        rt,
-        file,
-        asking.limit,
-        asking.after,
-        given,
-        &mut room[..r],
-        &mut work[..w],
-    )
+    println!(rt)
 }
 
-// What is asked.
-fn asked(from: &mut impl Read) -> io::Result<Asking> {
-    let limit = corpus::three(from)?;
-    let after = corpus::one(from)?;
-    let room = corpus::two(from)?;
-    let work = corpus::three(from)?;
-    Ok(Asking {
-        limit: limit,
-        after: after == 1,
-        room: room,
-        work: work,
-    })
-}
-
-// Takes the file of an entry, which comes last.
-fn with_file(
-    rt: &impl Print,
-    from: &mut impl Read,
-    asking: Asking,
-    file: &mut [u8],
-    given: &[u8],
-    room: &mut [u8],
-    work: &mut [u8],
-) -> io::Result<()> {
-    let taken = corpus::part(from, file)?;
-    match taken {
-        Taken::Of(n) => with_rooms(rt, report::first(file, n), asking, given, room, work),
-        Taken::Done => Ok(()),
-    }
-}
-
-// Takes an entry: the limit, 1 for a listing after a run and else 0, the lengths of the run's room and of the work room, that run, and a
-// file.
+// Takes an entry: the limit, 1 for a listing after a run and else 0, the lengths of the run's room and of the work room,
+// that run, and a file. There is no line where the rooms that are at hand are not so long.
 pub fn ask(
     rt: &impl Print,
     from: &mut impl Read,
@@ -160,10 +76,18 @@ pub fn ask(
     room: &mut [u8],
     work: &mut [u8],
 ) -> io::Result<()> {
-    let asking = asked(from)?;
-    let taken = corpus::part(from, given)?;
-    match taken {
-        Taken::Of(n) => with_file(rt, from, asking, file, report::first(given, n), room, work),
-        Taken::Done => Ok(()),
-    }
+    let Some(asking) = asked(from)? else {
+        return Ok(());
+    };
+    let Some(r) = corpus::part(from, given)? else {
+        return Ok(());
+    };
+    let Some(n) = corpus::part(from, file)? else {
+        return Ok(());
+    };
+    let (Some(room), Some(work)) = (room.get_mut(..asking.room), work.get_mut(..asking.work)) else {
+        return Ok(());
+    };
+    let given = asking.after.then_some(first(given, r));
+    answer(rt, first(file, n), asking.limit, given, room, work)
 }

@@ -1,48 +1,37 @@
-// A file, a run and a budget: the replay. Prints what was fired, the marking reached, whether it is final, why it stopped and whether the
-// run explains the log; or the refusal.
-use corpus::Taken;
+// A file, a run and a budget: the replay. Prints what was fired, the marking reached, whether it is final, why it stopped
+// and whether the run explains the log; or the refusal.
+use report::{Replay, first};
 use std::io;
 use std::io::Read;
 
 // The answer for one run. The case is read again for the number of places.
-fn answer<'f, 'r>(rt: &impl Print, file: &'f [u8], run: &'r [u8], budget: u16) -> io::Result<()> {
-    let done = retrace::retrace(file, run, budget);
+fn answer(rt: &impl Print, file: &[u8], run: &[u8], budget: u16) -> io::Result<()> {
     let case = reader::read_case(file).case;
-    report::replayed(rt, done, case.net, case.pattern, b"", b" | ")
+    let replay = Replay {
+        done: retrace::retrace(file, run, budget),
+        places: case.net.places,
+        pattern_places: case.pattern.places,
+        before_marking: "",
+        between: " | ",
+    };
+    println!(rt; "{replay}")
 }
-
-// Takes the file that comes after a budget and a run.
-fn with_file<'r, 'f>(
-    rt: &impl Print,
-    from: &mut impl Read,
-    budget: u16,
-    run: &'r [u8],
-    room: &'f mut [u8],
-) -> io::Result<()> {
-    let taken = corpus::part(from, room)?;
-    match taken {
-        Taken::Of(n) => answer(rt, report::first(room, n), run, budget),
-        Taken::Done => Ok(()),
-    }
-}
-
-// The greatest budget.
-const MOST_BUDGET: usize = 65535;
 
 // Takes an entry: a budget, a run and a file.
-pub fn ask<'r, 'f>(
+pub fn ask(
     rt: &impl Print,
     from: &mut impl Read,
-    run: &'r mut [u8],
-    room: &'f mut [u8],
+    run: &mut [u8],
+    file: &mut [u8],
 ) -> io::Result<()> {
-    let budget = corpus::two(from)?;
-    if MOST_BUDGET < budget {
+    let Some(budget) = corpus::number::<2>(from)? else {
         return Ok(());
-    }
-    let taken = corpus::part(from, run)?;
-    match taken {
-        Taken::Of(n) => with_file(rt, from, budget as u16, report::first(run, n), room),
-        Taken::Done => Ok(()),
-    }
+    };
+    let Some(r) = corpus::part(from, run)? else {
+        return Ok(());
+    };
+    let Some(n) = corpus::part(from, file)? else {
+        return Ok(());
+    };
+    answer(rt, first(file, n), first(run, r), budget as u16)
 }

@@ -1,11 +1,12 @@
 -- The rank of a run rises with the order of runs, and no run of at most 24 bytes reaches the top rank. Assumes nothing.
-use Prim.Native.Nat.{ℕ, suc, ◌+◌, ◌*◌, ◌<◌, ◌≤◌}
+use Prim.Native.Nat.{ℕ, suc, ◌+◌, ◌*◌, ◌-◌, ◌<◌, ◌≤◌}
 use mathlib.Core.Path.{◌≡◌, subst}
 use mathlib.Core.List.{List, [], ◌∷◌}
 use mathlib.Core.Logic.{⊎_elim}
 use native.Mathlib.Omega.{arith}
-use lib.ListN.{length, get_or, replicate}
+use lib.ListN.{length, get_or, take, replicate}
 use lib.Dec.{T}
+use Rattle.std.specs.Prelude.{Option, Some, None}
 use Rattle.walks.specs.Order.{smaller, before}
 use Rattle.walks.proofs.Order.{smaller_cases, before_cases}
 use Rattle.explanations.specs.Turns.{rank_from, rank, top_rank}
@@ -52,3 +53,8 @@ later-rank r s b t =
 pub below_top : (r : List ℕ) → Bytes r → length r ≤ 24 → rank r < top_rank
 unfolding rank top_rank
 below_top r b l = rises r (replicate 24 0) 1 2 b (omega arith) (omega (arith, l))
+
+-- how many lines are left at most after one that shows a run at the front of the room
+abbrev pub lines_left : Option ℕ → List ℕ → ℕ
+lines_left (Some n) room = suc (top_rank - rank (take n room))
+lines_left None room = 0

@@ -5,6 +5,7 @@ use mathlib.Core.List.{List}
 use native.Mathlib.Omega.{arith}
 use lib.ListN.{length, length-append, drop}
 use lib.Seq.{take-append_seam}
+use Rattle.std.specs.Prelude.{Option}
 use Rattle.rack.specs.Outcome.{holding}
 use Rattle.rack.specs.Listing.{after, later, NextIs}
 use Rattle.rack.specs.ListingOutcome.{ListingIs}
@@ -12,7 +13,6 @@ use Rattle.rack.specs.ListingOutcome.ListingIsIn.{matching, other, end, refused}
 use Rattle.rack.specs.declared.Case.{Case}
 use Rattle.rack.specs.declared.Listed.{Listed}
 use Rattle.explanations.specs.Turns.{shown_of, rank, Comes, LaterSays}
-use Rattle.explanations.specs.declared.Shown.{Shown}
 use Rattle.explanations.proofs.Ranks.{Bytes, later-rank, below_top}
 
 -- a room of 24 bytes that holds a run
@@ -38,5 +38,5 @@ module _ {f : List ℕ} {limit : ℕ} {room work : List ℕ} where
     shown-later (end g p u) e = tt
     shown-later (refused u) e = tt
 
-    pub told_next : {x : Listed} {a w : List ℕ} {s : Shown} → ListingIs f limit (after given) room work x a w → length a ≡ 24 → s ≡ shown_of x → LaterSays given s a
-    told_next {a = a} l e q = subst (λ (s : Shown). LaterSays given s a) (sym q) (shown-later l e)
+    pub told_next : {x : Listed} {a w : List ℕ} {s : Option ℕ} → ListingIs f limit (after given) room work x a w → length a ≡ 24 → s ≡ shown_of x → LaterSays given s a
+    told_next {a = a} l e q = subst (λ (s : Option ℕ). LaterSays given s a) (sym q) (shown-later l e)

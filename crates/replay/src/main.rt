@@ -1,73 +1,63 @@
-// replay BUDGET N N ..: reads a case file on standard input, fires the given numbers on it, at most BUDGET of them, and prints how many it
-// fired, the marking then reached, whether that is final, why it stopped, and whether the run explains the log, each on a line; or one line
-// that says why it is refused. It keeps one byte more than the longest file has. BUDGET is 0 to 65535 and each N 0 to 255, in at most 32
-// decimal digits; there are at most 65,536 of the N, which is more than any budget. Any other call gets one line on standard error.
+// replay BUDGET N N ..: reads a case file on standard input, fires the given numbers on it, at most BUDGET of them, and
+// prints how many it fired, the marking then reached, whether that is final, why it stopped, and whether the run
+// explains the log, each on a line; or one line that says why it is refused. It keeps one byte more than the longest
+// file has. BUDGET is 0 to 65535 and each N 0 to 255, in at most 32 decimal digits; there are at most 65,536 of the N,
+// which is more than any budget. Any other call gets one line on standard error.
 
 #![tactic(auto)]
 
 ghost use Rattle.std.specs.Prelude.{◌≤◌, length};
 
-use arguments::{Spelled, argument};
+use arguments::argument;
 use rack::LONGEST_FILE;
+use report::Replay;
 use std::env::Env;
 use std::io;
 
+// How many of the N a call has at most.
+const MOST: usize = 65536;
+
 // How to call the program.
 fn usage(rt: &impl Eprint) -> io::Result<()> {
-    rt.eprint(
-        "usage: replay BUDGET N .., with a case file on standard input; BUDGET 0 to 65535, each N 0 to 255, at most 65536 of them\n",
-    )
+    eprint!(rt; "usage: replay BUDGET N .., with a case file on standard input; BUDGET 0 to 65535, each N 0 to 255, at most 65536 of them\n")
 }
 
-// Puts the numbers of the arguments from the second on at the front of run, count of them, and answers whether each is one.
-fn take_run(rt: &impl Env, run: &mut [u8], count: usize) -> bool
-    requires { (count ≤ 65536) × (count ≤ length run.old) }
+// Puts the numbers of the arguments from the second on into the run, or answers none where one of them is no number.
+fn take_run(rt: &impl Env, run: &mut [u8]) -> Option<()>
+    requires { length run.old ≤ 65536 }
 {
-    let mut i: usize = 0;
-    while i < count {
-        match argument(rt, i + 2, 255) {
-            Spelled::Number(n) => {
-                run[i] = n as u8;
-            }
-            Spelled::Nothing => {
-                return false;
-            }
-        }
-        i += 1;
+    for (i, number) in run.iter_mut().enumerate() {
+        *number = argument(rt, i + 2, 255)? as u8;
     }
-    true
+    Some(())
 }
 
 // Replays the run on the case of a file. The case is read again for the number of places.
-fn answer<'f, 'r>(
-    rt: &impl Print,
-    file: &'f [u8],
-    run: &'r [u8; 65536],
-    count: usize,
-    budget: u16,
-) -> io::Result<()> {
-    let done = retrace::retrace(file, report::first(run, count), budget);
+fn answer(rt: &impl Print, file: &[u8], run: &[u8], budget: u16) -> io::Result<()> {
     let case = reader::read_case(file).case;
-    report::replayed(rt, done, case.net, case.pattern, b"marking ", b"\n")
+    let replay = Replay {
+        done: retrace::retrace(file, run, budget),
+        places: case.net.places,
+        pattern_places: case.pattern.places,
+        before_marking: "marking ",
+        between: "\n",
+    };
+    println!(rt; "{replay}")
 }
 
 fn main(rt: HostRuntime) -> io::Result<()> {
-    let arguments = arguments::count(&rt);
-    if arguments < 2 {
-        return usage(&rt);
-    }
-    let count = arguments - 2;
-    if 65536 < count {
-        return usage(&rt);
-    }
-    let Spelled::Number(budget) = argument(&rt, 1, 65535) else {
+    let count = match arguments::count(&rt) {
+        n @ 2..=65538 => n - 2,
+        _ => return usage(&rt),
+    };
+    let Some(budget) = argument(&rt, 1, 65535) else {
         return usage(&rt);
     };
-    let mut run = [0u8; 65536];
-    if !take_run(&rt, &mut run, count) {
+    let mut run = [0u8; MOST];
+    if take_run(&rt, &mut run[..count]).is_none() {
         return usage(&rt);
     }
     let mut file = [0u8; LONGEST_FILE + 1];
     let n = input::read_full(&mut rt.stdin(), &mut file)?;
-    answer(&rt, &file[..n], &run, count, budget as u16)
+    answer(&rt, &file[..n], &run[..count], budget as u16)
 }

@@ -1,193 +1,144 @@
-// How the programs print their answers on standard output.
+// How the programs print their answers on standard output: each answer is a struct here that implements Display, with no line end.
 
 #![tactic(auto)]
 
-ghost use Rattle.std.specs.Prelude.{◌≡◌, ◌≤◌, take, IfOk, OnErr};
+ghost use Rattle.std.specs.Prelude.{◌≡◌, take};
 
-use itoa::Buffer;
-use rack::{Net, PatternNet, Replayed, Stop, wide};
-use std::io;
-
-// How many bytes of a run are put together before they are written.
-const PIECE: usize = 256;
-
-// A number, with no blank or line end.
-pub fn number(rt: &impl Print, n: usize) -> io::Result<()> {
-    rt.print(n)
-}
-
-// A text.
-pub fn text(rt: &impl Print, s: &[u8]) -> io::Result<()> {
-    rt.write_all(s)
-}
+use rack::{Judged, Listed, Replayed, Stop, Verdict};
+use std::fmt;
 
 // The first n bytes of a slice, or all of it where it has fewer.
 pub fn first(bytes: &[u8], n: usize) -> &[u8]
     ensures { result.now ≡ take n bytes.now }
 {
-    if bytes.len() < n {
-        return bytes;
+    &bytes[..n.min(bytes.len())]
+}
+
+// A refusal: its number and the number beside it.
+#[derive(Clone, Copy, Debug, PartialEq, Eq)]
+pub struct Refused(pub u8, pub usize);
+
+impl fmt::Display for Refused {
+    fn fmt<W: fmt::Write>(&self, f: &mut fmt::Formatter<W>) -> fmt::Result {
+        write!(f, "refused {} {}", self.0, self.1)
     }
-    &bytes[..n]
 }
 
-// The end of a line.
-pub fn line_end(rt: &impl Print) -> io::Result<()> {
-    text(rt, b"\n")
-}
+// A run: its length, then its numbers, each with a blank before it.
+#[derive(Clone, Copy, Debug, PartialEq, Eq)]
+pub struct Run<'a>(pub &'a [u8]);
 
-// A refusal without a line end: its number and the number beside it.
-pub fn refusal(rt: &impl Print, number_of: u8, beside: usize) -> io::Result<()> {
-    text(rt, b"refused ")?;
-    number(rt, wide(number_of))?;
-    text(rt, b" ")?;
-    number(rt, beside)
-}
-
-// A line for a refusal.
-pub fn refused(rt: &impl Print, number_of: u8, beside: usize) -> io::Result<()> {
-    refusal(rt, number_of, beside)?;
-    line_end(rt)
-}
-
-// Puts a byte behind the first `used` ones; where there is no room for it, those are written and it becomes the first. Answers how many
-// there are then.
-fn push(rt: &impl Print, out: &mut [u8; PIECE], used: usize, byte: u8) -> io::Result<usize>
-    requires { used ≤ 256 }
-    ensures ok { IfOk result (λ r. r ≤ 256) }
-    ensures err { OnErr result (out.new ≡ out.old) }
-{
-    if used == PIECE {
-        text(rt, &out[..])?;
-        out[0] = byte;
-        return Ok(1);
-    }
-    out[used] = byte;
-    Ok(used + 1)
-}
-
-// The same for one byte after the other.
-fn push_all(rt: &impl Print, out: &mut [u8; PIECE], used: usize, bytes: &[u8]) -> io::Result<usize>
-    requires { used ≤ 256 }
-    ensures { IfOk result (λ r. r ≤ 256) }
-{
-    let mut end = used;
-    let mut i: usize = 0;
-    while i < bytes.len() {
-        end = push(rt, out, end, bytes[i])?;
-        i += 1;
-    }
-    Ok(end)
-}
-
-// The same for a blank and the digits of a number.
-fn spell(rt: &impl Print, out: &mut [u8; PIECE], used: usize, number_of: u8) -> io::Result<usize>
-    requires { used ≤ 256 }
-    ensures { IfOk result (λ r. r ≤ 256) }
-{
-    let mut digits = Buffer::new();
-    let end = push(rt, out, used, b' ')?;
-    push_all(rt, out, end, digits.format(number_of).as_bytes())
-}
-
-// Numbers, each with a blank before it. They are put together in the lent bytes, and written when these are full: a long run takes few
-// writes.
-fn spelled(rt: &impl Print, numbers: &[u8], out: &mut [u8; PIECE]) -> io::Result<()> {
-    let mut used: usize = 0;
-    let mut i: usize = 0;
-    while i < numbers.len() {
-        used = spell(rt, out, used, numbers[i])?;
-        i += 1;
-    }
-    text(rt, first(out, used))
-}
-
-// A run without a line end: its length, then its numbers.
-pub fn run(rt: &impl Print, numbers: &[u8]) -> io::Result<()> {
-    number(rt, numbers.len())?;
-    let mut out = [0u8; PIECE];
-    spelled(rt, numbers, &mut out)
-}
-
-// Counts of tokens with a blank between each two, and no line end.
-pub fn tokens(rt: &impl Print, counts: &[u8]) -> io::Result<()> {
-    let mut i: usize = 0;
-    while i < counts.len() {
-        if 0 < i {
-            text(rt, b" ")?;
+impl<'a> fmt::Display for Run<'a> {
+    fn fmt<W: fmt::Write>(&self, f: &mut fmt::Formatter<W>) -> fmt::Result {
+        write!(f, "{}", self.0.len())?;
+        for number in self.0 {
+            write!(f, " {number}")?;
         }
-        number(rt, wide(counts[i]))?;
-        i += 1;
-    }
-    Ok(())
-}
-
-// One of two texts.
-fn either<'a>(rt: &impl Print, first_one: bool, one: &'a [u8], other: &'a [u8]) -> io::Result<()> {
-    if first_one {
-        text(rt, one)
-    } else {
-        text(rt, other)
+        Ok(())
     }
 }
 
-// The marking that a replay reached, with a count for each place: the tokens of the system, then those of the pattern.
-fn marking(rt: &impl Print, done: Replayed, net: Net<16>, pattern_net: PatternNet) -> io::Result<()> {
-    let system = done.system;
-    let pattern = done.pattern;
-    tokens(rt, first(&system, wide(net.places)))?;
-    text(rt, b" | ")?;
-    tokens(rt, first(&pattern, wide(pattern_net.places)))
+// Counts of tokens with a blank between each two.
+#[derive(Clone, Copy, Debug, PartialEq, Eq)]
+pub struct Tokens<'a>(pub &'a [u8]);
+
+impl<'a> fmt::Display for Tokens<'a> {
+    fn fmt<W: fmt::Write>(&self, f: &mut fmt::Formatter<W>) -> fmt::Result {
+        if let Some((count, rest)) = self.0.split_first() {
+            write!(f, "{count}")?;
+            for count in rest {
+                write!(f, " {count}")?;
+            }
+        }
+        Ok(())
+    }
 }
 
-// Why a replay stopped; a refusal has a line of its own.
-fn reason(rt: &impl Print, stop: Stop) -> io::Result<()> {
+// A verdict: its word and the shown runs, F (matching) or C (other), with a text before each. The runs stand at the front of their rooms.
+#[derive(Clone, Copy, Debug, PartialEq, Eq)]
+pub struct Judgement<'a> {
+    pub judged: Judged,
+    pub matching: &'a [u8],
+    pub other: &'a [u8],
+    pub between: &'a str,
+}
+
+impl<'a> fmt::Display for Judgement<'a> {
+    fn fmt<W: fmt::Write>(&self, f: &mut fmt::Formatter<W>) -> fmt::Result {
+        let between = self.between;
+        let matching = Run(first(self.matching, self.judged.matching));
+        let other = Run(first(self.other, self.judged.other));
+        match self.judged.verdict {
+            Verdict::Faulty => write!(f, "faulty{between}F {matching}"),
+            Verdict::Safe => write!(f, "safe{between}C {other}"),
+            Verdict::Ambiguous => {
+                write!(f, "ambiguous{between}F {matching}")?;
+                write!(f, "{between}C {other}")
+            }
+            Verdict::Refused(number, beside) => Refused(number, beside).fmt(f),
+        }
+    }
+}
+
+// An answer of the listing: F (matching) or C (other) and the run, which stands at the front of the room; or the end.
+#[derive(Clone, Copy, Debug, PartialEq, Eq)]
+pub struct Listing<'a> {
+    pub listed: Listed,
+    pub room: &'a [u8],
+}
+
+impl<'a> fmt::Display for Listing<'a> {
+    fn fmt<W: fmt::Write>(&self, f: &mut fmt::Formatter<W>) -> fmt::Result {
+        match self.listed {
+            Listed::Matching(n) => write!(f, "F {}", Run(first(self.room, n))),
+            Listed::Other(n) => write!(f, "C {}", Run(first(self.room, n))),
+            Listed::End => write!(f, "end"),
+            Listed::Refused(number, beside) => Refused(number, beside).fmt(f),
+        }
+    }
+}
+
+// A replay on a case whose nets have so many places: how many numbers it fired, the marking with a text before it, whether that is final, why
+// it stopped, and whether the run explains the log, with a text between them.
+#[derive(Clone, Copy, Debug, PartialEq, Eq)]
+pub struct Replay<'a> {
+    pub done: Replayed,
+    pub places: u8,
+    pub pattern_places: u8,
+    pub before_marking: &'a str,
+    pub between: &'a str,
+}
+
+// Why a replay stopped. A refusal is shown by itself.
+fn reason(stop: Stop) -> &'static str {
     match stop {
-        Stop::RunEnded => text(rt, b"run ended"),
-        Stop::BudgetSpent => text(rt, b"budget spent"),
-        Stop::NotFirable => text(rt, b"not firable"),
-        Stop::CapPassed => text(rt, b"cap passed"),
-        Stop::Refused(_, _) => Ok(()),
+        Stop::RunEnded => "run ended",
+        Stop::BudgetSpent => "budget spent",
+        Stop::NotFirable => "not firable",
+        Stop::CapPassed => "cap passed",
+        Stop::Refused(_, _) => "refused",
     }
 }
 
-// A replay that was made: how many it fired, the marking with a text before it, whether that is final, why it stopped, and whether the run
-// explains the log, with a text between them.
-fn made<'a>(
-    rt: &impl Print,
-    done: Replayed,
-    net: Net<16>,
-    pattern_net: PatternNet,
-    before_marking: &'a [u8],
-    between: &'a [u8],
-) -> io::Result<()> {
-    text(rt, b"fired ")?;
-    number(rt, done.fired)?;
-    text(rt, between)?;
-    text(rt, before_marking)?;
-    marking(rt, done, net, pattern_net)?;
-    text(rt, between)?;
-    either(rt, done.matches, b"final", b"not final")?;
-    text(rt, between)?;
-    let stop = done.stop;
-    reason(rt, stop)?;
-    text(rt, between)?;
-    either(rt, done.explains, b"explains", b"no")?;
-    line_end(rt)
-}
-
-// A replay of a case with these nets; or a line for its refusal.
-pub fn replayed<'a>(
-    rt: &impl Print,
-    done: Replayed,
-    net: Net<16>,
-    pattern_net: PatternNet,
-    before_marking: &'a [u8],
-    between: &'a [u8],
-) -> io::Result<()> {
-    let stop = done.stop;
-    match stop {
-        Stop::Refused(number_of, beside) => refused(rt, number_of, beside),
-        _ => made(rt, done, net, pattern_net, before_marking, between),
+impl<'a> fmt::Display for Replay<'a> {
+    fn fmt<W: fmt::Write>(&self, f: &mut fmt::Formatter<W>) -> fmt::Result {
+        let Replay {
+            done,
+            places,
+            pattern_places,
+            before_marking,
+            between,
+        } = *self;
+        if let Stop::Refused(number, beside) = done.stop {
+            return Refused(number, beside).fmt(f);
+        }
+        let system = Tokens(first(&done.system, usize::from(places)));
+        let pattern = Tokens(first(&done.pattern, usize::from(pattern_places)));
+        let matches = if done.matches { "final" } else { "not final" };
+        let why = reason(done.stop);
+        let explains = if done.explains { "explains" } else { "no" };
+        write!(f, "fired {}{between}{before_marking}", done.fired)?;
+        write!(f, "{system} | {pattern}{between}{matches}")?;
+        write!(f, "{between}{why}{between}{explains}")
     }
 }

@@ -3,4 +3,4 @@ use Rattle.arguments.proofs.Spelling.{says_small}
 use Rattle.arguments.proofs.argument.Goals as goal
 
 pub returns : goal.returns
-returns g c = says_small _ _ c.number.ensures
+returns g c = rw c.number.ensures (says_small _ _)

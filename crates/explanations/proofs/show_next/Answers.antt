@@ -8,8 +8,8 @@ use Rattle.explanations.proofs.show_next.Goals as goal
 pub returns-clause-ok : goal.returns-clause-ok
 returns-clause-ok g c =
     IfOk-weaker
-    c.print.result
+    c.show.result
     (λ s. s ≡ shown_of c.next-listed.result)
     (λ s. LaterSays c.args.given.now s c.next-listed.new.room)
     (λ s q. told_next (λ k. omega (arith, c.type_inv.given k)) (search rules) c.next-listed.ensures (search rules) q)
-    c.print.ensures
+    c.show.ensures
