@@ -30,8 +30,8 @@ fn number(digits: &[u8], most: usize) -> Option<usize>
     if value <= most { Some(value) } else { None }
 }
 
-// The number that argument i spells, if there is that argument, in at most 32 digits, and it spells one that is at most `most`. What the
-// arguments are no contract can say; `number` is proved to read them as `spelled` does.
+// The number that argument i spells, if there is that argument, in at most 32 digits, and it spells one that is at
+// most `most`. What the arguments are no contract can say; `number` is proved to read them as `spelled` does.
 pub fn argument(rt: &impl Env, i: usize, most: usize) -> Option<usize>
     ensures { IfSome result (λ n. n ≤ most) }
 {

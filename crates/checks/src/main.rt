@@ -1,5 +1,5 @@
-// checks: reads a case file on standard input and prints the first of the refusals 2 to 9 that speaks, or `accepted` and
-// the number of reachable product markings. It keeps one byte more than the longest file has.
+// checks: reads a case file on standard input and prints the first of the refusals 2 to 9 that speaks, or `accepted`
+// and the number of reachable product markings. It keeps one byte more than the longest file has.
 
 #![tactic(auto)]
 

@@ -1,7 +1,7 @@
-// Asks the proved calls every question of the corpus, and prints for each what the second program says of it: a line for
-// each entry. An entry begins with a byte for its kind; each kind has a module in corpus_cases or corpus_runs, or the
-// crate corpus_writes, which says what else its entries hold. A further kind is a variant of Kind, its number, a module
-// and an arm of `ask`.
+// Asks the proved calls every question of the corpus, and prints for each what the second program says of it: a line
+// for each entry. An entry begins with a byte for its kind; each kind has a module in corpus_cases or corpus_runs, or
+// the crate corpus_writes, which says what else its entries hold. A further kind is a variant of Kind, its number, a
+// module and an arm of `ask`.
 
 #![tactic(auto)]
 

@@ -1,6 +1,7 @@
-// Reads a corpus: numbers, the low byte first, and parts, each with its length in three bytes before it. The second program writes the corpus,
-// and what it says of each entry. Beside that: looking whether a room still holds the byte that it was filled with. What is read no contract
-// can say: it comes from outside. The contracts fix the range of what is read, and all that `still` does.
+// Reads a corpus: numbers, the low byte first, and parts, each with its length in three bytes before it. The second
+// program writes the corpus, and what it says of each entry. Beside that: looking whether a room still holds the byte
+// that it was filled with. What is read no contract can say: it comes from outside. The contracts fix the range of
+// what is read, and all that `still` does.
 
 #![tactic(auto)]
 

@@ -66,8 +66,8 @@ fn answer(
     println!(rt)
 }
 
-// Takes an entry: the limit, 1 for a listing after a run and else 0, the lengths of the run's room and of the work room,
-// that run, and a file. There is no line where the rooms that are at hand are not so long.
+// Takes an entry: the limit, 1 for a listing after a run and else 0, the lengths of the run's room and of the work
+// room, that run, and a file. There is no line where the rooms that are at hand are not so long.
 pub fn ask(
     rt: &impl Print,
     from: &mut impl Read,

@@ -1,5 +1,5 @@
-// A file, a run and a budget: the replay. Prints what was fired, the marking reached, whether it is final, why it stopped
-// and whether the run explains the log; or the refusal.
+// A file, a run and a budget: the replay. Prints what was fired, the marking reached, whether it is final, why it
+// stopped and whether the run explains the log; or the refusal.
 use report::{Replay, first};
 use std::io;
 use std::io::Read;

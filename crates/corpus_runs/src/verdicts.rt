@@ -1,6 +1,6 @@
-// A file and the rooms that are lent: the verdict. Prints its word and the shown runs, or the refusal. The rooms for runs
-// are lent full of 170, the work room full of 255; the line says so if anything beyond the shown runs has changed, or the
-// work room is not all zeros afterwards.
+// A file and the rooms that are lent: the verdict. Prints its word and the shown runs, or the refusal. The rooms for
+// runs are lent full of 170, the work room full of 255; the line says so if anything beyond the shown runs has
+// changed, or the work room is not all zeros afterwards.
 use report::{Judgement, first};
 use std::io;
 use std::io::Read;

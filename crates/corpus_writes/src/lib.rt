@@ -1,8 +1,8 @@
 // The kind of the corpus that asks the writer: a case in memory, the room that is lent and the file that it must hold
-// then. Prints `written` and the file's length, or the refusal: 14 for a case that no file reads as, 11 with the length
-// that is needed. The room is lent full of 170, a byte that no file has; the line says so if the file is another one, or
-// if anything beyond it has changed. `ask` takes one entry and prints its line, as in corpus_cases; where the corpus ends
-// too early there is no line.
+// then. Prints `written` and the file's length, or the refusal: 14 for a case that no file reads as, 11 with the
+// length that is needed. The room is lent full of 170, a byte that no file has; the line says so if the file is
+// another one, or if anything beyond it has changed. `ask` takes one entry and prints its line, as in corpus_cases;
+// where the corpus ends too early there is no line.
 
 #![tactic(auto)]
 
@@ -38,7 +38,8 @@ fn answer(rt: &impl Print, case: Case, room: &mut [u8], file: &[u8]) -> io::Resu
     println!(rt)
 }
 
-// Takes an entry: the room's length, the file that is to be written, which is empty for a refusal, and a case in memory.
+// Takes an entry: the room's length, the file that is to be written, which is empty for a refusal, and a case in
+// memory.
 pub fn ask(
     rt: &impl Print,
     from: &mut impl Read,

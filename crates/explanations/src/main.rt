@@ -15,7 +15,7 @@ use std::io;
 
 // How to call the program.
 fn usage(rt: &impl Eprint) -> io::Result<()> {
-    eprint!(rt; "usage: explanations LIMIT, with a case file on standard input; LIMIT 0 to 18446744073709551615\n")
+    eprintln!(rt; "usage: explanations LIMIT, with a case file on standard input; LIMIT 0 to {}", usize::MAX)
 }
 
 // Prints the line of an answer, with the room that the run was written to, and gives the run's length; none where the

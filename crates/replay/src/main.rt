@@ -19,7 +19,9 @@ const MOST: usize = 65536;
 
 // How to call the program.
 fn usage(rt: &impl Eprint) -> io::Result<()> {
-    eprint!(rt; "usage: replay BUDGET N .., with a case file on standard input; BUDGET 0 to 65535, each N 0 to 255, at most 65536 of them\n")
+    let call = "usage: replay BUDGET N .., with a case file on standard input";
+    let bounds = "BUDGET 0 to 65535, each N 0 to 255, at most 65536 of them";
+    eprintln!(rt; "{call}; {bounds}")
 }
 
 // Puts the numbers of the arguments from the second on into the run, or answers none where one of them is no number.

@@ -1,10 +1,14 @@
-// How the programs print their answers on standard output: each answer is a struct here that implements Display, with no line end.
+// How the programs print their answers: each is a struct that implements Display, with no line end. What it is printed
+// as stands in specs/Texts.antt.
 
 #![tactic(auto)]
 
-ghost use Rattle.std.specs.Prelude.{◌≡◌, take};
+ghost use Rattle.std.specs.Prelude.{◌≡◌, Some, take, if◌then◌else◌};
+ghost use Rattle.rack.specs.Refused.{number_of, beside_of};
+ghost use Rattle.report.specs.Texts.{refused_text, run_text, tokens_text};
+ghost use Rattle.report.specs.Texts.{judgement_text, listing_text, made_text, replay_text};
 
-use rack::{Judged, Listed, Replayed, Stop, Verdict};
+use rack::{Judged, Listed, Refusal, Replayed, Stop, Verdict};
 use std::fmt;
 
 // The first n bytes of a slice, or all of it where it has fewer.
@@ -18,7 +22,17 @@ pub fn first(bytes: &[u8], n: usize) -> &[u8]
 #[derive(Clone, Copy, Debug, PartialEq, Eq)]
 pub struct Refused(pub u8, pub usize);
 
+impl From<Refusal> for Refused {
+    ghost from_gives = { λ r s. s ≡ record { 0 = number_of r; 1 = beside_of r } };
+
+    fn from(refusal: Refusal) -> Refused {
+        Refused(refusal.number(), refusal.beside())
+    }
+}
+
 impl fmt::Display for Refused {
+    ghost output = { λ r. Some (refused_text r.0 r.1) };
+
     fn fmt<W: fmt::Write>(&self, f: &mut fmt::Formatter<W>) -> fmt::Result {
         write!(f, "refused {} {}", self.0, self.1)
     }
@@ -29,6 +43,8 @@ impl fmt::Display for Refused {
 pub struct Run<'a>(pub &'a [u8]);
 
 impl<'a> fmt::Display for Run<'a> {
+    ghost output = { λ r. Some (run_text r.0.now) };
+
     fn fmt<W: fmt::Write>(&self, f: &mut fmt::Formatter<W>) -> fmt::Result {
         write!(f, "{}", self.0.len())?;
         for number in self.0 {
@@ -43,6 +59,8 @@ impl<'a> fmt::Display for Run<'a> {
 pub struct Tokens<'a>(pub &'a [u8]);
 
 impl<'a> fmt::Display for Tokens<'a> {
+    ghost output = { λ t. Some (tokens_text t.0.now) };
+
     fn fmt<W: fmt::Write>(&self, f: &mut fmt::Formatter<W>) -> fmt::Result {
         if let Some((count, rest)) = self.0.split_first() {
             write!(f, "{count}")?;
@@ -54,7 +72,8 @@ impl<'a> fmt::Display for Tokens<'a> {
     }
 }
 
-// A verdict: its word and the shown runs, F (matching) or C (other), with a text before each. The runs stand at the front of their rooms.
+// A verdict: its word and the shown runs, F (matching) or C (other), with a text before each. The runs stand at the
+// front of their rooms.
 #[derive(Clone, Copy, Debug, PartialEq, Eq)]
 pub struct Judgement<'a> {
     pub judged: Judged,
@@ -64,6 +83,8 @@ pub struct Judgement<'a> {
 }
 
 impl<'a> fmt::Display for Judgement<'a> {
+    ghost output = { λ j. Some (judgement_text j) };
+
     fn fmt<W: fmt::Write>(&self, f: &mut fmt::Formatter<W>) -> fmt::Result {
         let between = self.between;
         let matching = Run(first(self.matching, self.judged.matching));
@@ -88,6 +109,8 @@ pub struct Listing<'a> {
 }
 
 impl<'a> fmt::Display for Listing<'a> {
+    ghost output = { λ l. Some (listing_text l) };
+
     fn fmt<W: fmt::Write>(&self, f: &mut fmt::Formatter<W>) -> fmt::Result {
         match self.listed {
             Listed::Matching(n) => write!(f, "F {}", Run(first(self.room, n))),
@@ -98,8 +121,8 @@ impl<'a> fmt::Display for Listing<'a> {
     }
 }
 
-// A replay on a case whose nets have so many places: how many numbers it fired, the marking with a text before it, whether that is final, why
-// it stopped, and whether the run explains the log, with a text between them.
+// A replay on a case whose nets have so many places, or its refusal: how many numbers it fired, the marking with a text
+// before it, whether that is final, why it stopped, and whether the run explains the log, with a text between them.
 #[derive(Clone, Copy, Debug, PartialEq, Eq)]
 pub struct Replay<'a> {
     pub done: Replayed,
@@ -109,36 +132,52 @@ pub struct Replay<'a> {
     pub between: &'a str,
 }
 
-// Why a replay stopped. A refusal is shown by itself.
-fn reason(stop: Stop) -> &'static str {
-    match stop {
-        Stop::RunEnded => "run ended",
-        Stop::BudgetSpent => "budget spent",
-        Stop::NotFirable => "not firable",
-        Stop::CapPassed => "cap passed",
-        Stop::Refused(_, _) => "refused",
-    }
+// One of two texts.
+fn either(first_one: bool, one: &'static str, other: &'static str) -> &'static str
+    ensures { result.now ≡ (if first_one then one.now else other.now) }
+{
+    if first_one { one } else { other }
 }
 
-impl<'a> fmt::Display for Replay<'a> {
+// A replay that was made, and why it stopped.
+#[derive(Clone, Copy, Debug, PartialEq, Eq)]
+struct Made<'a>(Replay<'a>, &'a str);
+
+impl<'a> fmt::Display for Made<'a> {
+    ghost output = { λ m. Some (made_text m.0 m.1.now) };
+
     fn fmt<W: fmt::Write>(&self, f: &mut fmt::Formatter<W>) -> fmt::Result {
+        let Made(replay, why) = *self;
         let Replay {
             done,
             places,
             pattern_places,
             before_marking,
             between,
-        } = *self;
-        if let Stop::Refused(number, beside) = done.stop {
-            return Refused(number, beside).fmt(f);
-        }
+        } = replay;
+        let fired = done.fired;
         let system = Tokens(first(&done.system, usize::from(places)));
         let pattern = Tokens(first(&done.pattern, usize::from(pattern_places)));
-        let matches = if done.matches { "final" } else { "not final" };
-        let why = reason(done.stop);
-        let explains = if done.explains { "explains" } else { "no" };
-        write!(f, "fired {}{between}{before_marking}", done.fired)?;
-        write!(f, "{system} | {pattern}{between}{matches}")?;
-        write!(f, "{between}{why}{between}{explains}")
+        let matches = either(done.matches, "final", "not final");
+        let explains = either(done.explains, "explains", "no");
+        write!(
+            f,
+            "fired {fired}{between}{before_marking}{system} | {pattern}"
+        )?;
+        write!(f, "{between}{matches}{between}{why}{between}{explains}")
+    }
+}
+
+impl<'a> fmt::Display for Replay<'a> {
+    ghost output = { λ r. Some (replay_text r) };
+
+    fn fmt<W: fmt::Write>(&self, f: &mut fmt::Formatter<W>) -> fmt::Result {
+        match self.done.stop {
+            Stop::RunEnded => Made(*self, "run ended").fmt(f),
+            Stop::BudgetSpent => Made(*self, "budget spent").fmt(f),
+            Stop::NotFirable => Made(*self, "not firable").fmt(f),
+            Stop::CapPassed => Made(*self, "cap passed").fmt(f),
+            Stop::Refused(number, beside) => Refused(number, beside).fmt(f),
+        }
     }
 }
