@@ -2,7 +2,7 @@
 use Rattle.std.proofs.Common.{arith}
 use Rattle.std.proofs.lemmas.Iterator.Adapters.{YieldsList-from_rev_slice}
 use Rattle.std.proofs.lemmas.Iterator.Consumers.{YieldsList-turn}
-use Rattle.corpus.proofs.Numbers.{held_more, held_fits}
+use Rattle.corpus.proofs.Numbers.{held_fits}
 use Rattle.corpus.proofs.held.Goals as goal
 
 pub overflow_mul-n : goal.overflow_mul-n
