@@ -222,6 +222,18 @@ pub enum Written {
     Refused(u8, usize),
 }
 
+impl From<Refusal> for Written {
+    ghost use Rattle.std.specs.Prelude.{◌≡◌};
+    ghost use Rattle.rack.specs.Refused.{number_of, beside_of};
+    ghost use Rattle.rack.specs.declared.Written.TheVariants.{Refused};
+
+    ghost from_gives = { λ r w. w ≡ Refused (number_of r) (beside_of r) };
+
+    fn from(refusal: Refusal) -> Written {
+        Written::Refused(refusal.number(), refusal.beside())
+    }
+}
+
 // Verdict: its kind, and how long the shown runs are.
 #[derive(Clone, Copy, Debug, PartialEq, Eq)]
 pub enum Verdict {

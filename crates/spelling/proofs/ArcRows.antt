@@ -2,7 +2,7 @@
 -- Assumes nothing.
 use mathlib.Core.Path.{◌≡◌, refl, sym, ap₂}
 use mathlib.Core.Bool.{true}
-use mathlib.Core.List.{List, ◌∷◌, ◌++◌}
+use mathlib.Core.List.{List, [], ◌∷◌, ◌++◌}
 use Prim.Native.Nat.{ℕ, ◌+◌, ◌*◌, ◌≤◌, ◌<◌}
 use native.Mathlib.Omega.{arith}
 use lib.ListN.{set}
@@ -41,7 +41,7 @@ module _ (x y w most places count : ℕ) (labels pre post f : List ℕ) (a : ℕ
   abbrev post' : List ℕ
   post' = marked (count * w) (list_at f (list_end f (a + 3))) post
 
-  arc_old : (t : ℕ) → t < count → arc_bytes x y w labels' pre' post' t ≡ arc_bytes x y w labels pre post t
+  arc_old : (t : ℕ) → t < count → arc_bytes (x ∷ y ∷ []) w labels' pre' post' t ≡ arc_bytes (x ∷ y ∷ []) w labels pre post t
   arc_old t h =
       let l = get_or-set_other labels count t (byte f (a + 2)) 0 (omega arith) in
       let i = row_old w most places count pre (list_at f (a + 3)) small r.inputs g.inputs.rises t h in
@@ -49,11 +49,11 @@ module _ (x y w most places count : ℕ) (labels pre post f : List ℕ) (a : ℕ
       ap₂ (λ (n : ℕ) (m : List ℕ). x ∷ y ∷ n ∷ m) l (ap₂ (λ (m n : List ℕ). counted m ++ counted n) i o)
 
   -- the records before it are as they were
-  pub arcs_join : up_to (count + 1) (arc_bytes x y w labels' pre' post') ≡ up_to count (arc_bytes x y w labels pre post) ++ arc_bytes x y w labels' pre' post' count
-  arcs_join = up_to_more count (arc_bytes x y w labels' pre' post') (arc_bytes x y w labels pre post) arc_old
+  pub arcs_join : up_to (count + 1) (arc_bytes (x ∷ y ∷ []) w labels' pre' post') ≡ up_to count (arc_bytes (x ∷ y ∷ []) w labels pre post) ++ arc_bytes (x ∷ y ∷ []) w labels' pre' post' count
+  arcs_join = up_to_more count (arc_bytes (x ∷ y ∷ []) w labels' pre' post') (arc_bytes (x ∷ y ∷ []) w labels pre post) arc_old
 
   -- and its bytes stand in the file
-  pub arc_spells : Letters x y f a → Spells f a (arc_bytes x y w labels' pre' post' count) (arcs_end f a)
+  pub arc_spells : Letters x y f a → Spells f a (arc_bytes (x ∷ y ∷ []) w labels' pre' post' count) (arcs_end f a)
   arc_spells le =
       let l = get_or-set_same labels count (byte f (a + 2)) 0 (omega (arith, r.names.long, g.few)) in
       let i = row_new w most places count pre (list_at f (a + 3)) small r.inputs g.inputs.rises g.few in

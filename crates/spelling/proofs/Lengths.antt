@@ -18,7 +18,6 @@ use Rattle.rack.specs.declared.Bounds.{Bounds}
 use Rattle.rack.specs.declared.Log.{Log}
 use Rattle.rack.specs.declared.Case.{Case}
 use Rattle.spelling.specs.Limits.{Limits}
-use Rattle.spelling.specs.Parts.{system_bytes, pattern_bytes}
 use Rattle.spelling.proofs.Repeats.{up_to_few}
 
 pub take_few : (n : ℕ) (l : List ℕ) → length (take n l) ≤ n
@@ -91,20 +90,15 @@ bounds_few places c h = up_to_few 18 c.count (qf_bytes places c) (λ g. omega (a
 
 -- ---- all of it
 
-pub system_few : (c : Case) → Limits c → length (system_bytes c) ≤ 1959
-unfolding system_bytes
-system_few c l = simp length-append (omega (arith, nt_few c.net, arcs_few c.arcs, pairs_few c.pairs, ob_few c.observable))
-
-pub few_patterns : (c : Case) → Limits c → length (pattern_bytes c) ≤ 492
-unfolding pattern_bytes
-few_patterns c l = simp length-append (omega (arith, pt_few c.pattern, links_few c.links, bounds_few c.pattern.places c.bounds l.pattern))
-
--- the file is the system's records, the pattern's, LG and EN
-pub bytes_parts : (c : Case) → system_bytes c ++ (pattern_bytes c ++ (lg_bytes c.log ++ en_bytes)) ≡ bytes_of c
-unfolding bytes_of system_bytes pattern_bytes
-bytes_parts c = simp append_assoc
+-- kind after kind
+pub bytes_in_order : (c : Case)
+    → (((((((nt_bytes c.net ++ up_to c.arcs.count (tr_bytes c.arcs)) ++ up_to c.pairs.count (pr_bytes c.pairs)) ++ ob_bytes c.observable) ++ pt_bytes c.pattern)
+    ++ up_to c.links.count (px_bytes c.links)) ++ up_to c.bounds.count (qf_bytes c.pattern.places c.bounds)) ++ lg_bytes c.log) ++ en_bytes
+    ≡ bytes_of c
+unfolding bytes_of
+bytes_in_order c = simp append_assoc
 
 pub bytes_few : (c : Case) → Limits c → length (bytes_of c) ≤ longest_file
 bytes_few c l =
-    subst (λ (x : List ℕ). length x ≤ longest_file) (bytes_parts c)
-    (simp length-append (omega (arith, system_few c l, few_patterns c l, lg_few c.log)))
+    subst (λ (x : List ℕ). length x ≤ longest_file) (bytes_in_order c)
+    (simp length-append (omega (arith, nt_few c.net, arcs_few c.arcs, pairs_few c.pairs, ob_few c.observable, pt_few c.pattern, links_few c.links, bounds_few c.pattern.places c.bounds l.pattern, lg_few c.log)))

@@ -1,4 +1,2 @@
 pub mod RoundTrip
-pub mod Telling
-pub mod Structs
 pub mod Outcomes

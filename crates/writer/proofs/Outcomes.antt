@@ -44,15 +44,16 @@ over_limits n w = n (read_limits w.reads)
 
 -- ---- the outcomes
 
-pub answer_written : {c : Case} {room₀ room : List ℕ} {n : ℕ} → Writable c → n ≤ length room₀ → n ≡ length (bytes_of c)
-    → room ≡ holding (bytes_of c) room₀ → WriterIs c room₀ (Writer.Bytes n) room
-answer_written {c} {room₀} {room} {n} w h e q =
-    subst (λ (x : List ℕ). WriterIs c room₀ (Writer.Bytes n) x) (sym q)
-    (subst (λ (k : ℕ). WriterIs c room₀ (Writer.Bytes k) (holding (bytes_of c) room₀)) (sym e) (written (also (some_file w) (also (room_long (omega arith)) none))))
+pub answer_written : {c : Case} {f room : List ℕ} → f ≡ bytes_of c → Writable c → length f ≤ length room
+    → WriterIs c room (Writer.Bytes (length f)) (holding f room)
+answer_written {c} {f} {room} e w h =
+    let P : List ℕ → Type 0 = λ g. length g ≤ length room → WriterIs c room (Writer.Bytes (length g)) (holding g room) in
+    subst P (sym e) (λ k. written (also (some_file w) (also (room_long k) none))) h
 
-pub answer_short : {c : Case} {room : List ℕ} {n : ℕ} → Writable c → length room < n → n ≡ length (bytes_of c) → WriterIs c room (Writer.Refused 11 n) room
-answer_short {c} {room} w h e =
-    subst (λ (k : ℕ). WriterIs c room (Writer.Refused 11 k) room) (sym e) (refused (rests (some_file w) (speaks (room_short (omega arith)))))
+pub answer_short : {c : Case} {f room : List ℕ} → f ≡ bytes_of c → Writable c → length room < length f → WriterIs c room (Writer.Refused 11 (length f)) room
+answer_short {c} {f} {room} e w h =
+    let P : List ℕ → Type 0 = λ g. length room < length g → WriterIs c room (Writer.Refused 11 (length g)) room in
+    subst P (sym e) (λ k. refused (rests (some_file w) (speaks (room_short k)))) h
 
 pub answer_unwritable : {c : Case} {room : List ℕ} → (Writable c → ⊥) → WriterIs c room (Writer.Refused 14 0) room
 answer_unwritable n = refused (speaks (no_such_file n))

@@ -1,50 +1,40 @@
--- `push_arcs` meets its contract. The invariant: t records are put, and row t begins at base. Assumes nothing.
-use mathlib.Core.Path.{◌≡◌, refl, sym, ap, ap₂}
-use Prim.Native.Nat.{ℕ, ◌+◌, ◌<◌}
-use mathlib.Core.List.{List, ◌∷◌, ◌++◌}
-use lib.ListN.{get_or}
-use native.Mathlib.Omega.{arith}
-use Rattle.rack.specs.Writing.{row_bytes, up_to}
+-- `push_arcs` meets its contract. Assumes nothing.
+use Rattle.std.proofs.Common.{rules, ◌≡◌, ◌+◌, ◌*◌, ◌<◌, length, arith, length-append, refl, ap}
 use Rattle.rack.proofs.WellFormedKinds.{next_row, rows_apart}
-use Rattle.spelling.specs.Parts.{arc_bytes}
-use Rattle.pieces.proofs.Putting.{puts_none, puts_then, puts_as}
-use Rattle.spelling.proofs.Lengths.{rows_few}
-use Rattle.spelling.proofs.Repeats.{up_to_none, up_to_snoc}
+use Rattle.spelling.specs.Parts.{arcs_bytes}
+use Rattle.spelling.proofs.Lengths.{row_few}
+use Rattle.pieces.proofs.Putting.{put_none, put_more}
+use Rattle.pieces.proofs.Slices.{part_long, part_row, put_arc, arc_few}
 use Rattle.pieces.proofs.kinds.push_arcs.Goals as goal
 
 pub loop-t-init : goal.loop-t-init
-loop-t-init c =
-    let g = arc_bytes c.args.letters.first c.args.letters.second c.args.width c.args.labels.now c.args.pre.now c.args.post.now in
-    (omega arith, omega arith, omega arith, puts_as (sym (up_to_none 0 g refl)) (puts_none c.args.room.now c.args.at (omega arith)))
+loop-t-init g c = record { long = omega arith; put = put_none _ (arcs_bytes c.args.mark.now c.args.width c.args.arcs.now) }
 
-pub push_arc-next-requires : goal.push_arc-next-requires
-push_arc-next-requires c =
-    let q : c.loop-t.t < c.args.count = c.loop-t-test.true in
-    let r = rows_apart c.args.width q in
-    let s = rows_apart (5 + c.args.width + c.args.width) q in
-    (omega (arith, r, c.requires, c.loop-t.invariant.1), omega (arith, r, c.requires, c.loop-t.invariant.1), omega (arith, s, c.requires, c.loop-t.invariant.2, c.loop-t.invariant.3.long))
-
-pub overflow_add-base : goal.overflow_add-base
-overflow_add-base c =
-    let q : c.loop-t.t < c.args.count = c.loop-t-test.true in
-    let r = rows_apart c.args.width q in
-    omega (arith, r, c.loop-t.invariant.1, c.wide-base.ensures, c.requires)
+pub push_row-requires-in-loop-t : goal.push_row-requires-in-loop-t
+push_row-requires-in-loop-t g c =
+    let inside : c.loop-t.t < c.args.arcs.now.count = omega (arith, c.from-t-end.ensures) in
+    let pre : length c.args.arcs.now.pre ≡ g.row.CELLS = search rules in
+    let post : length c.args.arcs.now.post ≡ g.row.CELLS = search rules in
+    let row = rows_apart c.args.width inside in
+    let room = rows_apart (5 + c.args.width + c.args.width) inside in
+    let long = part_long c.args.arcs.now.post (c.loop-t.t * c.args.width) c.args.width (omega arith) in
+    let same = part_row c.args.arcs.now.pre (c.loop-t.t * c.args.width) c.args.width (omega arith) in
+    let few = row_few c.args.arcs.now.pre (c.loop-t.t * c.args.width) c.args.width in
+    (search rules, (omega arith, omega (arith, few, ap length same, simp length-append at (ap length c.push_bytes.ensures), simp length-append at (ap length c.push_row.ensures))))
 
 pub loop-t-preserved : goal.loop-t-preserved
-loop-t-preserved c =
-    let f = rows_few c.args.pre.now c.args.post.now c.loop-t.base c.args.width in
-    let n = next_row c.loop-t.t c.args.width in
-    let m = next_row c.loop-t.t (5 + c.args.width + c.args.width) in
-    let rows : ℕ → List ℕ = λ b. row_bytes c.args.pre.now b c.args.width ++ row_bytes c.args.post.now b c.args.width in
-    let e = ap₂ (λ (k b : ℕ). c.args.letters.first ∷ c.args.letters.second ∷ get_or c.args.labels.now k 0 ∷ rows b) c.wide.ensures.0 c.loop-t.invariant.1 in
-    let g = arc_bytes c.args.letters.first c.args.letters.second c.args.width c.args.labels.now c.args.pre.now c.args.post.now in (
-      omega (arith, c.loop-t-test.true),
-      omega (arith, n, c.loop-t.invariant.1, c.wide-base.ensures),
-      omega (arith, m, c.loop-t.invariant.2, c.push_arc-next.ensures.ends, f),
-      puts_as (up_to_snoc c.loop-t.t g) (puts_then c.loop-t.invariant.3 (puts_as e c.push_arc-next.ensures)),
-    )
-
-pub returns : goal.returns
-returns c =
-    let e : c.loop-t.t ≡ c.args.count = omega arith in
-    puts_as (ap (λ (k : ℕ). up_to k (arc_bytes c.args.letters.first c.args.letters.second c.args.width c.args.labels.now c.args.pre.now c.args.post.now)) e) c.loop-t.invariant.3
+loop-t-preserved g c =
+    let arcs = c.args.arcs.now in
+    let inside : c.loop-t.t < arcs.count = omega (arith, c.from-t-end.ensures) in
+    let pre : length arcs.pre ≡ g.row.CELLS = search rules in
+    let post : length arcs.post ≡ g.row.CELLS = search rules in
+    let row = rows_apart c.args.width inside in
+    let few = arc_few c.args.mark.now arcs.labels arcs.pre arcs.post c.args.width c.loop-t.t c.told-mark in
+    let put =
+    put_arc c.loop-t.file.items c.args.mark.now arcs.labels arcs.pre arcs.post c.loop-t.t c.args.width (omega arith) (omega arith)
+    c.push_bytes.ensures c.push.ensures.items c.push_row.ensures c.push_row-in-loop-t.ensures
+    in
+    record {
+      long = omega (arith, few, next_row c.loop-t.t (5 + c.args.width + c.args.width), length-append c.loop-t.file.items (arcs_bytes c.args.mark.now c.args.width arcs c.loop-t.t), ap length put);
+      put = put_more _ c.loop-t.t (arcs_bytes c.args.mark.now c.args.width arcs) c.loop-t.invariant.put put refl;
+    }

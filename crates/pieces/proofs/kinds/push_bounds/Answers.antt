@@ -1,25 +1,19 @@
--- `push_bounds` meets its contract. The invariant: the bounds of p places are put. Assumes nothing.
-use mathlib.Core.Path.{◌≡◌, refl, sym, ap}
-use Prim.Native.Nat.{ℕ}
-use native.Mathlib.Omega.{arith}
-use Rattle.rack.specs.Writing.{up_to}
+-- `push_bounds` meets its contract. Assumes nothing.
+use Rattle.std.proofs.Common.{◌≡◌, length, arith, length-append, refl, ap}
 use Rattle.spelling.specs.Parts.{bounds_at}
-use Rattle.pieces.proofs.Putting.{puts_none, puts_then, puts_as}
-use Rattle.spelling.proofs.Repeats.{up_to_none, up_to_snoc}
+use Rattle.pieces.proofs.Putting.{put_none, put_more, put_all}
 use Rattle.pieces.proofs.kinds.push_bounds.Goals as goal
 
 pub loop-p-init : goal.loop-p-init
-loop-p-init c = (omega arith, omega arith, puts_as (sym (up_to_none 0 (bounds_at c.args.least.now c.args.most.now c.args.base) refl)) (puts_none c.args.room.now c.args.at (omega arith)))
+loop-p-init g c = record { long = omega arith; put = put_none _ (bounds_at c.args.least.now c.args.most.now) }
 
 pub loop-p-preserved : goal.loop-p-preserved
-loop-p-preserved c =
-    let e = ap (bounds_at c.args.least.now c.args.most.now c.args.base) c.wide.ensures.0 in (
-      omega (arith, c.loop-p-test.true),
-      omega (arith, c.loop-p.invariant.1, c.push_two-next.ensures.ends),
-      puts_as (up_to_snoc c.loop-p.p (bounds_at c.args.least.now c.args.most.now c.args.base)) (puts_then c.loop-p.invariant.2 (puts_as e c.push_two-next.ensures)),
-    )
+loop-p-preserved g c = record {
+  long = omega (arith, simp length-append at (ap length c.push_bytes.ensures));
+  put = put_more _ c.loop-p.p (bounds_at c.args.least.now c.args.most.now) c.loop-p.invariant.put c.push_bytes.ensures refl;
+}
 
 pub returns : goal.returns
-returns c =
-    let e : c.loop-p.p ≡ c.args.places = omega arith in
-    puts_as (ap (λ (k : ℕ). up_to k (bounds_at c.args.least.now c.args.most.now c.args.base)) e) c.loop-p.invariant.2
+returns g c =
+    let e : c.loop-p.p ≡ length c.args.least.now = omega arith in
+    put_all _ (bounds_at c.args.least.now c.args.most.now) e c.loop-p.invariant.put
