@@ -1,4 +1,3 @@
-pub mod Scans
 pub mod Firsts
 pub mod NetWords
 pub mod BoundLaws
