@@ -6,14 +6,12 @@
 
 ghost use Rattle.std.specs.Prelude.{true, false};
 ghost use Rattle.rack.specs.VerdictOutcome.{VerdictIs};
-ghost use Rattle.steps.specs.Walkable.{Ready};
 ghost use Rattle.judge.specs.CaseJudged.{answer_of, Shown};
 ghost use Rattle.judge.specs.Kinds.{KindSays, LengthSays, ToWrite, PlaceWritten};
 
-use admit::Answer;
-use plan::{PLAN, Plan};
 use rack::{Judged, Refusal, Verdict, WORK_ROOM};
 use search::{Place, Searched};
+use steps::table::Table;
 
 // How long the run to a place is, 0 where there is none: it has to fit the room that is lent for it.
 fn length_in(place: Option<Place>, out: &[u8]) -> Result<usize, Refusal>
@@ -29,36 +27,25 @@ fn length_in(place: Option<Place>, out: &[u8]) -> Result<usize, Refusal>
 }
 
 // Writes the run to a place, if there is one, to the front of out.
-fn write<'r, 'a, 'o>(
-    plan: &'a Plan,
-    work: &'r [u8],
-    rows: usize,
-    met: usize,
-    place: Option<Place>,
-    out: &'o mut [u8],
-)
-    requires ready { Ready plan.now work.now rows }
-    requires to_write { ToWrite plan.now work.now rows met place out.old }
-    ensures { PlaceWritten plan.now work.now place out.old out.new }
+fn write(table: &Table, met: usize, place: Option<Place>, out: &mut [u8])
+    requires { ToWrite table.now.plan.now table.now.room.now table.now.rows met place out.old }
+    ensures { PlaceWritten table.now.plan.now table.now.room.now place out.old out.new }
 {
     if let Some(place) = place {
-        search::write_run(plan, work, rows, met, place.rank, place.depth, out);
+        search::write_run(table, met, place, out);
     }
 }
 
 // The verdict by the first explanation of each kind that the search has met: they are shown where each fits its room.
-fn show<'r, 'a, 'm, 'o>(
-    plan: &'a Plan,
-    work: &'r [u8],
-    rows: usize,
+fn show(
+    table: &Table,
     found: Searched,
-    matching: &'m mut [u8],
-    other: &'o mut [u8],
+    matching: &mut [u8],
+    other: &mut [u8],
 ) -> Result<Judged, Refusal>
-    requires ready { Ready plan.now work.now rows }
-    requires matching_says { KindSays plan.now work.now rows found.met true found.matching }
-    requires other_says { KindSays plan.now work.now rows found.met false found.other }
-    ensures { Shown plan.now matching.old other.old (answer_of result) matching.new other.new }
+    requires matching_says { KindSays table.now.plan.now table.now.room.now table.now.rows found.met true found.matching }
+    requires other_says { KindSays table.now.plan.now table.now.room.now table.now.rows found.met false found.other }
+    ensures { Shown table.now.plan.now matching.old other.old (answer_of result) matching.new other.new }
 {
     let verdict = match (found.matching, found.other) {
         (Some(_), None) => Verdict::Faulty,
@@ -71,9 +58,30 @@ fn show<'r, 'a, 'm, 'o>(
         matching: length_in(found.matching, matching)?,
         other: length_in(found.other, other)?,
     };
-    write(plan, work, rows, found.met, found.matching, matching);
-    write(plan, work, rows, found.met, found.other, other);
+    write(table, found.met, found.matching, matching);
+    write(table, found.met, found.other, other);
     Ok(judged)
+}
+
+// The verdict on a case file, or the first check that speaks.
+fn judge_file(
+    file: &[u8],
+    matching: &mut [u8],
+    other: &mut [u8],
+    work: &mut [u8],
+) -> Result<Judged, Refusal>
+    ensures { VerdictIs file.now matching.old other.old work.old (answer_of result) matching.new other.new work.new }
+{
+    let opened = admit::open(file, WORK_ROOM, work)?;
+    let found = search::search(&opened.plan, work, opened.rows);
+    let table = Table {
+        plan: &opened.plan,
+        room: work,
+        rows: opened.rows,
+    };
+    let shown = show(&table, found, matching, other);
+    room::clear(work);
+    shown
 }
 
 // The verdict on a case file. The run that is shown of each kind is written to the front of its room, one byte for each firing, and nothing
@@ -81,21 +89,7 @@ fn show<'r, 'a, 'm, 'o>(
 pub fn judge(file: &[u8], matching: &mut [u8], other: &mut [u8], work: &mut [u8]) -> Judged
     ensures { VerdictIs file.now matching.old other.old work.old result matching.new other.new work.new }
 {
-    let mut plan = [0u64; PLAN];
-    let rows = match admit::open(file, WORK_ROOM, &mut plan, work) {
-        Answer::Table(rows) => rows,
-        Answer::Refused(number, beside) => {
-            return Judged {
-                verdict: Verdict::Refused(number, beside),
-                matching: 0,
-                other: 0,
-            };
-        }
-    };
-    let found = search::search(&plan, work, rows);
-    let shown = show(&plan, work, rows, found, matching, other);
-    room::clear(work);
-    match shown {
+    match judge_file(file, matching, other, work) {
         Ok(judged) => judged,
         Err(refusal) => Judged::from(refusal),
     }
