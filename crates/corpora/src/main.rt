@@ -7,9 +7,8 @@
 
 use corpus_cases::{checks, files};
 use corpus_runs::{listings, replays, verdicts};
-use std::fmt;
-use std::io;
 use std::io::Read;
+use std::{fmt, io};
 
 // The kinds of entries.
 #[derive(Clone, Copy, Debug, PartialEq, Eq)]

@@ -15,7 +15,10 @@ use std::io;
 
 // How to call the program.
 fn usage(rt: &impl Eprint) -> io::Result<()> {
-    eprintln!(rt; "usage: explanations LIMIT, with a case file on standard input; LIMIT 0 to {}", usize::MAX)
+    eprintln!(rt;
+        "usage: explanations LIMIT, with a case file on standard input; LIMIT 0 to {}",
+        usize::MAX
+    )
 }
 
 // Prints the line of an answer, with the room that the run was written to, and gives the run's length; none where the
