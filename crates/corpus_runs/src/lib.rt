@@ -7,3 +7,8 @@
 pub mod listings;
 pub mod replays;
 pub mod verdicts;
+
+// What the rooms for runs are full of beforehand, and the work room.
+const FULL: u8 = 170;
+
+const WORK_FULL: u8 = 255;

@@ -1,15 +1,11 @@
 // A file, what the listing is asked, and the rooms that are lent. Prints the run that it gives and its mark, `end`, or
 // the refusal. The room for the run is lent full of 170, the work room full of 255; the line says so if anything beyond
 // the run given has changed, or the work room is not all zeros afterwards.
+use crate::{FULL, WORK_FULL};
 use rack::Listed;
 use report::{Listing, first};
 use std::io;
 use std::io::Read;
-
-// What the run's room is full of beforehand, and the work room.
-const FULL: u8 = 170;
-
-const WORK_FULL: u8 = 255;
 
 // What is asked: the limit, whether after a given run and not from the start, and the lengths of the two rooms.
 #[derive(Clone, Copy, Debug, PartialEq, Eq)]

@@ -1,14 +1,10 @@
 // A file and the rooms that are lent: the verdict. Prints its word and the shown runs, or the refusal. The rooms for
 // runs are lent full of 170, the work room full of 255; the line says so if anything beyond the shown runs has
 // changed, or the work room is not all zeros afterwards.
+use crate::{FULL, WORK_FULL};
 use report::{Judgement, first};
 use std::io;
 use std::io::Read;
-
-// What the rooms for runs are full of beforehand, and the work room.
-const FULL: u8 = 170;
-
-const WORK_FULL: u8 = 255;
 
 // The lengths of the rooms that are lent.
 #[derive(Clone, Copy, Debug, PartialEq, Eq)]

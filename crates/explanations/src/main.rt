@@ -5,7 +5,7 @@
 
 #![tactic(auto)]
 
-ghost use Rattle.std.specs.Prelude.{◌≡◌, ◌≤◌, length, IfOk, IfSome, OnErr};
+ghost use Rattle.std.specs.Prelude.{◌≡◌, ◌≤◌, length, IfOk, OnErr};
 ghost use Rattle.explanations.specs.Turns.{shown_of, LaterSays};
 
 use arguments::argument;
@@ -33,22 +33,6 @@ fn show(rt: &impl Print, listed: Listed, room: &[u8]) -> io::Result<Option<usize
     })
 }
 
-// The line of the first explanation.
-fn show_first(
-    rt: &impl Print,
-    file: &[u8],
-    limit: usize,
-    room: &mut [u8],
-    work: &mut [u8],
-) -> io::Result<Option<usize>>
-    requires { length room.old ≡ 24 }
-    ensures ok { IfOk result (λ s. IfSome s (λ n. n ≤ 24)) }
-    ensures err { OnErr result (length room.new ≡ length room.old) }
-{
-    let listed = listing::first(file, limit, room, work);
-    show(rt, listed, room)
-}
-
 // The line of the explanation after the given run. It comes later than that.
 fn show_next(
     rt: &impl Print,
@@ -70,7 +54,8 @@ fn show_next(
 // bytes: that is why it ends, and the measure is how far the rank of the run is below the top (specs/Turns.antt).
 fn all(rt: &impl Print, file: &[u8], limit: usize, work: &mut [u8]) -> io::Result<()> {
     let mut room = [0u8; 24];
-    let mut shown = show_first(rt, file, limit, &mut room, work)?;
+    let first = listing::first(file, limit, &mut room, work);
+    let mut shown = show(rt, first, &room)?;
     while let Some(n) = shown {
         let given = room;
         shown = show_next(rt, file, limit, &given[..n], &mut room, work)?;
