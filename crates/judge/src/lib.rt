@@ -1,6 +1,6 @@
-// The verdict on a rack log: the call `judge`, over every file and every length of room. It opens the file (checks 1 to 9), searches
-// the nodes that runs keeping to the log can be in, and shows the first explanation of each kind. What its answers mean stands in rack's
-// specs/VerdictOutcome.antt.
+// The verdict on a rack log: the call `judge`, over every file and every length of room. It opens the file (checks 1 to
+// 9), searches the nodes that runs keeping to the log can be in, and shows the first explanation of each kind. What its
+// answers mean stands in rack's specs/VerdictOutcome.antt.
 
 #![tactic(auto)]
 
@@ -43,8 +43,8 @@ fn show(
     matching: &mut [u8],
     other: &mut [u8],
 ) -> Result<Judged, Refusal>
-    requires matching_says { KindSays table.now.plan.now table.now.room.now table.now.rows found.met true found.matching }
-    requires other_says { KindSays table.now.plan.now table.now.room.now table.now.rows found.met false found.other }
+    requires first { KindSays table.now.plan.now table.now.room.now table.now.rows found.met true found.matching }
+    requires second { KindSays table.now.plan.now table.now.room.now table.now.rows found.met false found.other }
     ensures { Shown table.now.plan.now matching.old other.old (answer_of result) matching.new other.new }
 {
     let verdict = match (found.matching, found.other) {
@@ -84,8 +84,9 @@ fn judge_file(
     shown
 }
 
-// The verdict on a case file. The run that is shown of each kind is written to the front of its room, one byte for each firing, and nothing
-// else in the two rooms changes; a refusal changes neither. The work room is all zeros afterwards, however long it is.
+// The verdict on a case file. The run that is shown of each kind is written to the front of its room, one byte for each
+// firing, and nothing else in the two rooms changes; a refusal changes neither. The work room is all zeros afterwards,
+// however long it is.
 pub fn judge(file: &[u8], matching: &mut [u8], other: &mut [u8], work: &mut [u8]) -> Judged
     ensures { VerdictIs file.now matching.old other.old work.old result matching.new other.new work.new }
 {

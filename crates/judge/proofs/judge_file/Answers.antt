@@ -20,7 +20,7 @@ invariant_of-table c =
     record { walkable = walkable after; long = after.long }
 
 pub show-shown-requires : goal.show-shown-requires
-show-shown-requires c = record { matching_says = matching_kind c.search-found.ensures; other_says = other_kind c.search-found.ensures }
+show-shown-requires c = record { first = matching_kind c.search-found.ensures; second = other_kind c.search-found.ensures }
 
 pub returns : goal.returns
 returns c =

@@ -5,17 +5,17 @@ use Rattle.judge.proofs.show.Goals as goal
 use Rattle.judge.proofs.show.Goals.{in-Some-None, in-Some-Some, in-None-Some}
 
 pub returns-in-None-None : goal.returns-in-None-None
-returns-in-None-None c = show_none c.requires.matching_says c.requires.other_says c.in-None-None.is-0 c.in-None-None.is-1
+returns-in-None-None c = show_none c.requires.first c.requires.second c.in-None-None.is-0 c.in-None-None.is-1
 
 pub returns-in_err-length_in : goal.returns-in_err-length_in
 returns-in_err-length_in c =
     let p = err_from_is_err_and c.from_residual.result c.from_residual.ensures.1 in
-    rw (p.1, p.2) (show_first _ c.requires.matching_says c.in_err-length_in.ensures)
+    rw (p.1, p.2) (show_first _ c.requires.first c.in_err-length_in.ensures)
 
 pub returns-in_err-length_in-2 : goal.returns-in_err-length_in-2
 returns-in_err-length_in-2 c =
     let p = err_from_is_err_and c.from_residual-in_err-length_in-2.result c.from_residual-in_err-length_in-2.ensures.1 in
-    rw (p.1, p.2) (show_second _ _ c.requires.matching_says c.requires.other_says c.in_ok-length_in.ensures c.in_err-length_in-2.ensures)
+    rw (p.1, p.2) (show_second _ _ c.requires.first c.requires.second c.in_ok-length_in.ensures c.in_err-length_in-2.ensures)
 
 pub returns : goal.returns
 returns c =
@@ -25,4 +25,4 @@ returns c =
       | in-Some-Some w ↦ rw (w.in-Some-Some.is-0, w.in-Some-Some.is-1) w.verdict-is
       | in-None-Some w ↦ rw (w.in-None-Some.is-0, w.in-None-Some.is-1) w.verdict-is
     ] in
-    show_runs _ _ c.requires.matching_says c.requires.other_says c.in_ok-length_in.ensures c.in_ok-length_in-2.ensures c.write.ensures c.write-2.ensures word
+    show_runs _ _ c.requires.first c.requires.second c.in_ok-length_in.ensures c.in_ok-length_in-2.ensures c.write.ensures c.write-2.ensures word
