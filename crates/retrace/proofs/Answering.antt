@@ -1,14 +1,14 @@
 -- From what the firings of a run come to, and from what the checks answer, to the answer of replay. Assumes nothing.
 use Prim.Native.Nat.{ℕ}
 use mathlib.Core.Path.{◌≡◌, refl, sym, ap, ◌∙◌, subst}
-use mathlib.Core.Bool.{Bool, true, false, ◌&&◌}
+use mathlib.Core.Bool.{Bool, true, false, ◌&&◌, false≢true}
 use mathlib.Core.List.{List, [], ◌∷◌}
-use borrow.Author.Tests.{eqb-true}
+use borrow.Author.Tests.{eqb-true, eq-eqb}
 use lib.ListN.{length, take}
 use lib.Seq.{take-length}
-use lib.Dec.{T, eqb}
+use lib.Dec.{T, eqb, eqb→eq}
 use Rattle.walks.specs.Walk.{walks}
-use Rattle.walks.proofs.Tests.{and_left, and_both}
+use Rattle.walks.proofs.Tests.{and_left, and_right, and_both, is_true, of_true}
 use Rattle.walks.proofs.Closed.{walks_cons}
 use Rattle.lanes.specs.Lanes.{tokens_of_system, tokens_of_pattern}
 use Rattle.rack.specs.Follow.{ProductMarking, final, start, step}
@@ -33,7 +33,22 @@ use Rattle.reader.proofs.Given.{given_whole}
 use Rattle.engine.specs.Markings.{product_of}
 use Rattle.retrace.specs.Firings.{position_of, FiredSays}
 use Rattle.retrace.specs.declared.Fired.{Fired}
-use Rattle.retrace.proofs.Positions.{position_explains}
+use Rattle.retrace.proofs.Positions.{position_explains, explains_position}
+use Rattle.engine.proofs.Outranking.{both_ways}
+use Rattle.std.proofs.Common.{Option, Some, None}
+
+-- ---- a position that is compared
+
+module _ (a : Option ℕ) (n : ℕ) (r : Bool) (off : a ≡ None → r ≡ false) (on : (i : ℕ) → a ≡ Some i → r ≡ eqb i n) where
+  pub position_same : r ≡ true → a ≡ Some n
+  position_same e = go a refl
+    where
+      go : (b : Option ℕ) → a ≡ b → b ≡ Some n
+      go None q = absurd (false≢true (sym (off q) ∙ e))
+      go (Some i) q = ap (λ (k : ℕ). Some k) (eqb-true i n (sym (on i q) ∙ e))
+
+  pub same_position : a ≡ Some n → r ≡ true
+  same_position e = on n e ∙ eq-eqb n n refl
 
 -- ---- the run explains the log
 
@@ -47,27 +62,33 @@ walks_fires c (t ∷ r) m u =
 
 module _ {c : Case} (w : WellFormed c) where
   -- a run that ended explains the log exactly if it leads to the log's end
-  ended_explains : (run : List ℕ) (budget : ℕ) → (eqb (count c run budget) (length run) && eqb (position_of c (take (count c run budget) run)) c.log.count) ≡ says_explains c run budget
+  ended_explains : (run : List ℕ) (budget : ℕ) (x : Bool) → (x ≡ true → (count c run budget ≡ length run) × (position_of c (take (count c run budget) run) ≡ Some c.log.count))
+      → (count c run budget ≡ length run → position_of c (take (count c run budget) run) ≡ Some c.log.count → x ≡ true) → x ≡ says_explains c run budget
   unfolding says_explains runs
-  ended_explains run budget = go (eqb (count c run budget) (length run)) refl
+  ended_explains run budget x told back =
+      both_ways x (eqb (count c run budget) (length run) && explains c run)
+      (λ t.
+      let (e, p) = told (is_true x t) in
+      let u = subst (λ (l : List ℕ). T (walks (goes_on c) (step c) (start c) l)) (all e) (count-is c run budget).fired in
+      and_both (eqb (count c run budget) (length run)) (explains c run) (of_true _ (eq-eqb (count c run budget) (length run) e))
+      (position_explains c (log_long w) run (walks_fires c run (start c) u) (rw (all e) at p)))
+      (λ t.
+      let e = eqb→eq (count c run budget) (length run) (and_left (eqb (count c run budget) (length run)) (explains c run) t) in
+      of_true x (back e (rw (all e) (explains_position c (log_long w) run (and_right (eqb (count c run budget) (length run)) (explains c run) t)))))
     where
-      go : (b : Bool) → eqb (count c run budget) (length run) ≡ b → (b && eqb (position_of c (take (count c run budget) run)) c.log.count) ≡ (b && explains c run)
-      go true e =
-          let all : take (count c run budget) run ≡ run = ap (λ (k : ℕ). take k run) (eqb-true (count c run budget) (length run) e) ∙ take-length run in
-          let u = subst (λ (l : List ℕ). T (walks (goes_on c) (step c) (start c) l)) all (count-is c run budget).fired in
-          rw all (position_explains c (log_long w) w.log.names.few run (walks_fires c run (start c) u))
-      go false e = refl
+      all : count c run budget ≡ length run → take (count c run budget) run ≡ run
+      all e = ap (λ (k : ℕ). take k run) e ∙ take-length run
 
   -- ---- the answer for a case whose nets have passed
 
   pub answers : (run : List ℕ) (budget : ℕ) (r : Fired) {m x : Bool} {a b : List ℕ} → FiredSays c run budget r → m ≡ final c (tokens_of_pattern r.marking.pattern.word)
       → a ≡ tokens_of_system r.marking.system.word → b ≡ tokens_of_pattern r.marking.pattern.word
-      → x ≡ (eqb r.fired (length run) && eqb r.at c.log.count)
+      → (x ≡ true → (r.fired ≡ length run) × (r.at ≡ Some c.log.count)) → (r.fired ≡ length run → r.at ≡ Some c.log.count → x ≡ true)
       → ◌≡◌ {A = Replayed} (record { fired = r.fired; system = a; pattern = b; matches = m; stop = r.stop; explains = x }) (replay_of c run budget)
   unfolding replay_of product_of
-  answers run budget r {m} {x} f p sys pat q =
+  answers run budget r {m} {x} f p sys pat told back =
       let t = f.there in
-      let e : x ≡ says_explains c run budget = q ∙ rw (f.counted, f.position) (ended_explains run budget) in
+      let e = ended_explains run budget x (λ z. let (n, i) = told z in (sym f.counted ∙ n, sym f.position ∙ i)) (λ n i. back (f.counted ∙ n) (f.position ∙ i)) in
       λ j.
       record {
         fired = f.counted j;

@@ -17,8 +17,9 @@ use Rattle.rack.specs.Net.{within, fired}
 use Rattle.rack.specs.Follow.{ProductMarking, pattern_fired, label_of, start, step}
 use Rattle.rack.specs.Reach.{pattern_goes, PatternReaches, product_within}
 use Rattle.rack.specs.Refusal.{PatternOver}
+use Rattle.std.proofs.Common.{Option, Some, None}
+use Rattle.engine.specs.Position.{next_position}
 use Rattle.rack.specs.Run.{fires, end}
-use Rattle.rack.specs.Keep.{keeps}
 use Rattle.rack.specs.Replay.{goes_on, firings, count, reached, reason_after, reason}
 use Rattle.rack.specs.WellFormed.{WellFormed}
 use Rattle.rack.specs.declared.Case.{Case}
@@ -28,14 +29,13 @@ use Rattle.rack.proofs.Accepted.{followed, pattern_within}
 use Rattle.rack.proofs.Replaying.{Counted}
 use Rattle.engine.specs.Fits.{BothLow}
 use Rattle.engine.specs.Markings.{product_of}
-use Rattle.engine.specs.Position.{next_position}
 use Rattle.engine.specs.declared.Product.{Product}
 use Rattle.engine.proofs.Kept.{within_tokens, step_system_length, step_pattern_length}
-use Rattle.retrace.specs.Firings.{position_by, position_of, fired_of, FiredSays}
+use Rattle.retrace.specs.Firings.{position_by, keeps_at, position_of, FiredSays}
 use Rattle.retrace.specs.declared.Fired.{Fired}
 
 -- after n firings of a run: the marking m and the position `at` in the log
-pub record Standing (c : Case) (run : List ℕ) (budget : ℕ) (m : ProductMarking) (at n : ℕ) : Type 0 where
+pub record Standing (c : Case) (run : List ℕ) (budget : ℕ) (m : ProductMarking) (at : Option ℕ) (n : ℕ) : Type 0 where
   pub in_run : n ≤ length run
   pub in_budget : n ≤ budget
   pub walked : T (walks (goes_on c) (step c) (start c) (take n run))
@@ -47,7 +47,7 @@ pub record Standing (c : Case) (run : List ℕ) (budget : ℕ) (m : ProductMarki
 
 -- ---- before the first firing
 
-pub standing_start : {c : Case} (run : List ℕ) (budget : ℕ) (m : ProductMarking) → WellFormed c → m ≡ start c → Standing c run budget m 0 0
+pub standing_start : {c : Case} (run : List ℕ) (budget : ℕ) (m : ProductMarking) → WellFormed c → m ≡ start c → Standing c run budget m (Some 0) 0
 unfolding walks ends position_of product_within start
 standing_start {c} run budget m w e =
     record {
@@ -64,12 +64,18 @@ standing_start {c} run budget m w e =
 
 -- ---- one firing more
 
+-- the position after it, where a position has been kept to
+pub moved_by : (c : Case) (t : ℕ) (at q : Option ℕ) → (at ≡ None → q ≡ None) → ((i : ℕ) → at ≡ Some i → q ≡ next_position c (label_of c t) i) → q ≡ position_by c at t
+unfolding position_by
+moved_by c t None q off on = off refl
+moved_by c t (Some i) q off on = on i refl
+
 -- a test beside one that passes
 and_yes : (a b : Bool) → b ≡ true → (a && b) ≡ a
 and_yes true b e = e
 and_yes false b e = refl
 
-module _ {c : Case} {run : List ℕ} {budget : ℕ} {m : ProductMarking} {at n : ℕ} (s : Standing c run budget m at n) where
+module _ {c : Case} {run : List ℕ} {budget : ℕ} {m : ProductMarking} {at : Option ℕ} {n : ℕ} (s : Standing c run budget m at n) where
   -- the system is within its cap
   pub system_held : T (within 16 c.net.cap m.system)
   unfolding product_within
@@ -101,9 +107,9 @@ module _ {c : Case} {run : List ℕ} {budget : ℕ} {m : ProductMarking} {at n :
       (is_true (within 8 c.pattern.cap x.pattern) (pattern_within c w.pattern.tokens_within x.pattern (pattern_follows kept t))))
 
   -- t is the next number of the run
-  pub standing_more : (PatternOver c → ⊥) → (m' : ProductMarking) (at' : ℕ) {t : ℕ} → n < length run → (n ≡ budget → ⊥) → t ≡ get_or run n 0 → fires c m t ≡ true → m' ≡ step c m t → T (product_within c m')
-      → at' ≡ next_position c (label_of c t) at → Standing c run budget m' at' (n + 1)
-  unfolding goes_on position_of position_by
+  pub standing_more : (PatternOver c → ⊥) → (m' : ProductMarking) (at' : Option ℕ) {t : ℕ} → n < length run → (n ≡ budget → ⊥) → t ≡ get_or run n 0 → fires c m t ≡ true → m' ≡ step c m t → T (product_within c m')
+      → at' ≡ position_by c at t → Standing c run budget m' at' (n + 1)
+  unfolding goes_on position_of
   standing_more kept m' at' {t} l ne q f e h p =
       let one : take (n + 1) run ≡ take n run ++ (t ∷ []) =
       ap (λ (k : ℕ). take k run) (add-one n) ∙ take-suc run n 0 l ∙ ap (λ (x : ℕ). take n run ++ (x ∷ [])) (sym q) in
@@ -115,7 +121,7 @@ module _ {c : Case} {run : List ℕ} {budget : ℕ} {m : ProductMarking} {at n :
         in_budget = omega (arith, ne, s.in_budget);
         walked = subst (λ (x : List ℕ). T (walks (goes_on c) (step c) (start c) x)) (sym one) (walks_snoc (goes_on c) (step c) (take n run) (start c) t s.walked on);
         there = e ∙ ap (λ (x : ProductMarking). step c x t) s.there ∙ sym (ap (ends (goes_on c) (step c) (start c)) one ∙ ends_snoc (goes_on c) (step c) (take n run) (start c) t);
-        position = p ∙ ap (λ (x : ℕ). position_by c x t) s.position ∙ sym (ap (ends (keeps c) (position_by c) 0) one ∙ ends_snoc (keeps c) (position_by c) (take n run) 0 t);
+        position = p ∙ ap (λ (x : Option ℕ). position_by c x t) s.position ∙ sym (ap (ends (keeps_at c) (position_by c) (Some 0)) one ∙ ends_snoc (keeps_at c) (position_by c) (take n run) (Some 0) t);
         held = h;
         follows = subst (λ (x : ProductMarking). PatternReaches c x.pattern) (sym e) (pattern_follows kept t);
         wide = ap (λ (x : ProductMarking). length x.pattern) e ∙ step_pattern_length c m t s.wide;
@@ -152,9 +158,13 @@ ends_same c (t ∷ r) m = ends_same c r (step c m t)
 
 -- ---- the reasons to stop, in their order
 
-module _ {c : Case} {run : List ℕ} {budget : ℕ} (p : Product) {at n : ℕ} (s : Standing c run budget (product_of p) at n) where
+-- n firings, the marking and the position after them, and the reason to stop
+abbrev pub stood : Product → Option ℕ → ℕ → Stop → Fired
+stood m at n stop = record { fired = n; marking = m; at = at; stop = stop }
+
+module _ {c : Case} {run : List ℕ} {budget : ℕ} (p : Product) {at : Option ℕ} {n : ℕ} (s : Standing c run budget (product_of p) at n) where
   stopped_by : (x : Stop) → (n < length run → n < budget → goes_on c (product_of p) (get_or run n 0) ≡ false) → x ≡ reason_after c n (length run) budget (product_of p) (get_or run n 0)
-      → FiredSays c run budget (fired_of n p at x)
+      → FiredSays c run budget (stood p at n x)
   unfolding count reached reason end
   stopped_by x none e =
       let k : Counted c (start c) run budget n =
@@ -173,22 +183,22 @@ module _ {c : Case} {run : List ℕ} {budget : ℕ} (p : Product) {at n : ℕ} (
         stopped = e ∙ ap (λ (m : ProductMarking). reason_after c n (length run) budget m (get_or run n 0)) t ∙ ap (λ (j : ℕ). reason_after c j (length run) budget (end c (take j run)) (get_or run j 0)) q;
       }
 
-  pub run_ended : {r : Fired} → r ≡ fired_of n p at RunEnded → length run ≤ n → FiredSays c run budget r
+  pub run_ended : {r : Fired} → r ≡ stood p at n RunEnded → length run ≤ n → FiredSays c run budget r
   unfolding reason_after
   run_ended e l = subst (FiredSays c run budget) (sym e) (stopped_by RunEnded (λ h k. absurd (omega arith)) (rw (eq-eqb n (length run) (omega (arith, s.in_run)))))
 
-  pub budget_spent : {r : Fired} → r ≡ fired_of n p at BudgetSpent → n < length run → n ≡ budget → FiredSays c run budget r
+  pub budget_spent : {r : Fired} → r ≡ stood p at n BudgetSpent → n < length run → n ≡ budget → FiredSays c run budget r
   unfolding reason_after
   budget_spent e l b = subst (FiredSays c run budget) (sym e) (stopped_by BudgetSpent (λ h k. absurd (omega arith)) (rw (ne_eqb n (length run) (omega arith), eq-eqb n budget b)))
 
   -- t is the next number of the run
   module _ {t : ℕ} (l : n < length run) (b : n ≡ budget → ⊥) (q : t ≡ get_or run n 0) where
-    pub not-firable : {r : Fired} → r ≡ fired_of n p at NotFirable → fires c (product_of p) t ≡ false → FiredSays c run budget r
+    pub not-firable : {r : Fired} → r ≡ stood p at n NotFirable → fires c (product_of p) t ≡ false → FiredSays c run budget r
     unfolding reason_after goes_on
     not-firable e f =
         subst (FiredSays c run budget) (sym e) (stopped_by NotFirable (λ h k. rw (← q, f)) (rw (ne_eqb n (length run) (omega arith), ne_eqb n budget b, ← q, f)))
 
-    pub cap_passed : {r : Fired} → r ≡ fired_of n p at CapPassed → fires c (product_of p) t ≡ true → product_within c (step c (product_of p) t) ≡ false → FiredSays c run budget r
+    pub cap_passed : {r : Fired} → r ≡ stood p at n CapPassed → fires c (product_of p) t ≡ true → product_within c (step c (product_of p) t) ≡ false → FiredSays c run budget r
     unfolding reason_after goes_on
     cap_passed e f o =
         subst (FiredSays c run budget) (sym e) (stopped_by CapPassed (λ h k. rw (← q, f, o)) (rw (ne_eqb n (length run) (omega arith), ne_eqb n budget b, ← q, f)))

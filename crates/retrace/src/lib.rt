@@ -12,17 +12,18 @@ ghost use Rattle.rack.specs.ReplayOutcome.{ReplayIs, replay_of, replay_refused};
 
 use crate::firing::fire;
 use engine::Product;
-use plan::{PLAN, Plan};
+use plan::Plan;
 use rack::{Outcome, Refusal, Replayed, Stop};
 
 mod firing; // firing.rt: the firings, one after the other
 
-// What the firings of a run came to: how many they were, the marking after them, the position in the log, and why there was no other.
-#[derive(Clone, Copy)]
+// What the firings of a run came to: how many they were, the marking after them, the position in the log, if they kept to it, and why there
+// was no other.
+#[derive(Clone, Copy, Debug, PartialEq, Eq)]
 struct Fired {
     pub fired: usize,
     pub marking: Product,
-    pub at: usize,
+    pub at: Option<usize>,
     pub stop: Stop,
 }
 
@@ -32,8 +33,8 @@ fn refused(refusal: Refusal) -> Replayed
 {
     Replayed {
         fired: 0,
-        system: [0u8; 16],
-        pattern: [0u8; 8],
+        system: [0; 16],
+        pattern: [0; 8],
         matches: false,
         stop: Stop::Refused(refusal.number(), refusal.beside()),
         explains: false,
@@ -47,7 +48,7 @@ fn replay(plan: &Plan, run: &[u8], budget: u16) -> Replayed
     ensures { result ≡ replay_of plan.now run.now budget }
 {
     let done = fire(plan, run, usize::from(budget));
-    let explains = done.fired == run.len() && done.at == plan.events();
+    let explains = done.fired == run.len() && done.at.is_some_and(|at| at == plan.events());
     Replayed {
         fired: done.fired,
         system: done.marking.system.tokens(),
@@ -67,8 +68,7 @@ pub fn retrace(file: &[u8], run: &[u8], budget: u16) -> Replayed
     match reading.outcome {
         Outcome::Refused(_, place) => refused(Refusal::Layout(place)),
         Outcome::Whole => {
-            let mut plan = [0u64; PLAN];
-            plan::plan_of(&mut plan, reading.case);
+            let plan = Plan::of(&reading.case);
             match pattern::check_pattern(&plan) {
                 Err(refusal) => refused(refusal),
                 Ok(()) => replay(&plan, run, budget),
