@@ -23,8 +23,8 @@ fn open_pair(marks: &[bool; 48], plan: &Plan) -> Option<SystemTransition>
     None
 }
 
-// Whether a chain of pairs, perhaps of none, leads from one transition down to another: marks spread from the one along the pairs
-// until no pair leads from a marked transition to one that is not.
+// Whether a chain of pairs, perhaps of none, leads from one transition down to another: marks spread from the one
+// along the pairs until no pair leads from a marked transition to one that is not.
 fn leads_down(from: SystemTransition, goal: SystemTransition, plan: &Plan) -> bool
     requires well_formed { WellFormed plan.now }
     requires from_bound { (from.0 < 48) × (goal.0 < 48) }
@@ -38,8 +38,8 @@ fn leads_down(from: SystemTransition, goal: SystemTransition, plan: &Plan) -> bo
     marks[goal.0]
 }
 
-// Whether some pair's lower transition leads back to its higher one. Every pair is tried: a cycle of more pairs would show from any other
-// of them too, but a pair of one transition with itself shows only from that pair.
+// Whether some pair's lower transition leads back to its higher one. Every pair is tried: a cycle of more pairs would
+// show from any other of them too, but a pair of one transition with itself shows only from that pair.
 pub fn has_cycle(plan: &Plan) -> bool
     requires { WellFormed plan.now }
     ensures { Says result (PairCycle plan.now) }

@@ -1,46 +1,19 @@
-// The rack: the case in memory and the answers of every call. What each of them means stands in specs/, beside the sentences of
-// document 01. A case keeps one struct for each kind of record; slots that a case does not use hold zeros. The only functions here
-// give a refusal's two numbers.
+// The rack: the case in memory and the answers of every call. What each of them means stands in specs/, beside the
+// sentences of document 01. A case keeps one struct for each kind of record; slots that a case does not use hold
+// zeros. The only functions here give a mark's row, a refusal's two numbers, and the answers of three calls that a
+// refusal makes.
 
 #![tactic(auto)]
 
-ghost use Rattle.std.specs.Prelude.{◌≡◌, ◌<◌};
+ghost use Rattle.std.specs.Prelude.{◌≡◌};
 ghost use Rattle.rack.specs.Marks as marks;
 ghost use Rattle.rack.specs.Refused.{number_of, beside_of, judged_of};
-
-// The refusal numbers, as `number` in specs/Refusal.antt has them.
-pub const REFUSED_WORK_ROOM: u8 = 1;
-
-pub const REFUSED_LAYOUT: u8 = 2;
-
-pub const REFUSED_CYCLE: u8 = 3;
-
-pub const REFUSED_PATTERN_COUNT: u8 = 4;
-
-pub const REFUSED_PATTERN_CAP: u8 = 5;
-
-pub const REFUSED_TWO_JOIN: u8 = 6;
-
-pub const REFUSED_FINAL_LEFT: u8 = 7;
-
-pub const REFUSED_PRODUCT_COUNT: u8 = 8;
-
-pub const REFUSED_SYSTEM_CAP: u8 = 9;
-
-pub const REFUSED_UNEXPLAINED: u8 = 10;
-
-pub const REFUSED_LENT_ROOM: u8 = 11;
-
-pub const REFUSED_LIMIT: u8 = 12;
-
-pub const REFUSED_GIVEN_RUN: u8 = 13;
-
-pub const REFUSED_UNWRITABLE: u8 = 14;
 
 // How long the work room of the verdict and of the listing must be: `work_room` in specs/Refusal.antt.
 pub const WORK_ROOM: usize = 51200;
 
-// How many pattern markings and how many product markings may be reachable: `pattern_most`, `product_most` in specs/Refusal.antt.
+// How many pattern markings and how many product markings may be reachable: `pattern_most`, `product_most` in
+// specs/Refusal.antt.
 pub const PATTERN_MOST: usize = 64;
 
 pub const PRODUCT_MOST: usize = 512;
@@ -51,7 +24,8 @@ pub const LIMIT_MOST: usize = 24;
 // "The longest file has 2,496 bytes.": `longest_file` in specs/CaseFileOutcome.antt.
 pub const LONGEST_FILE: usize = 2496;
 
-// NT and PT: how many places a net has, its cap, and each place's first tokens. The system has at most 16 places and the pattern 8.
+// NT and PT: how many places a net has, its cap, and each place's first tokens. The system has at most 16 places and
+// the pattern 8.
 #[derive(Clone, Copy, Debug, PartialEq, Eq)]
 pub struct Net<const PLACES: usize> {
     pub places: u8,
@@ -59,9 +33,10 @@ pub struct Net<const PLACES: usize> {
     pub first: [u8; PLACES],
 }
 
-// TR and PX: the transitions of a net. Row t of pre and of post is as wide as the net may have places, w, and holds 1 where an arc stands
-// and else 0: pre[t * w + p] says whether place p is an input of transition t, post[t * w + p] whether it is an output. The system has at
-// most 48 transitions in 768 cells, rows 16 wide; the pattern 16 in 128, rows 8 wide.
+// TR and PX: the transitions of a net. Row t of pre and of post is as wide as the net may have places, w, and holds 1
+// where an arc stands and else 0: pre[t * w + p] says whether place p is an input of transition t, post[t * w + p]
+// whether it is an output. The system has at most 48 transitions in 768 cells, rows 16 wide; the pattern 16 in 128,
+// rows 8 wide.
 #[derive(Clone, Copy, Debug, PartialEq, Eq)]
 pub struct Arcs<const TRANSITIONS: usize, const CELLS: usize> {
     pub count: u8,
@@ -98,11 +73,6 @@ pub struct Log {
     pub count: u8,
     pub labels: [u8; 40],
 }
-
-// Both for the pattern. TODO: goes when no crate names it.
-pub type PatternNet = Net<8>;
-
-pub type PatternArcs = Arcs<16, 128>;
 
 // A case. The system is net and arcs; the pattern is pattern (its places) and links (its arcs).
 #[derive(Clone, Copy, Debug, PartialEq, Eq)]
@@ -147,7 +117,8 @@ impl Mark {
     }
 }
 
-// The checks, each with what stands beside its number where that is not 0: the place of the first wrong record, the length that is needed.
+// The checks, each with what stands beside its number where that is not 0: the place of the first wrong record, the
+// length that is needed.
 #[derive(Clone, Copy, Debug, PartialEq, Eq)]
 pub enum Refusal {
     WorkRoom,
@@ -201,8 +172,8 @@ impl Refusal {
     }
 }
 
-// Reader: the file reads as the case, or is refused. A refusal carries its number and the number beside it, here as in every
-// other answer.
+// Reader: the file reads as the case, or is refused. A refusal carries its number and the number beside it, here as
+// in every other answer.
 #[derive(Clone, Copy, Debug, PartialEq, Eq)]
 pub enum Outcome {
     Whole,
@@ -281,8 +252,8 @@ pub enum Stop {
     Refused(u8, usize),
 }
 
-// Replay: how many firings were made, the tokens of the system's and of the pattern's places after them, whether that is final (what was fired matches), why it
-// stopped, and whether the run explains the log.
+// Replay: how many firings were made, the tokens of the system's and of the pattern's places after them, whether that
+// is final (what was fired matches), why it stopped, and whether the run explains the log.
 #[derive(Clone, Copy, Debug, PartialEq, Eq)]
 pub struct Replayed {
     pub fired: usize,
@@ -291,11 +262,4 @@ pub struct Replayed {
     pub matches: bool,
     pub stop: Stop,
     pub explains: bool,
-}
-
-// The byte x as a count or an index.
-pub fn wide(x: u8) -> usize
-    ensures { (result ≡ x) × (result < 256) }
-{
-    x as usize
 }

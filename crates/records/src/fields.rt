@@ -1,7 +1,8 @@
-// The fields of records: whether those of the record at an offset are right, and where it ends. Each reader of a record
-// is handed the file, the offset of the record's mark, and what it has to know of the records before; that the mark is
-// there is known already. A wrong record's place is the offset of its mark.
-// Kept: (file, at) stay two parameters: read_list is asked at three offsets of one file, so a struct would be made anew.
+// The fields of records: whether those of the record at an offset are right, and where it ends. Each reader of a
+// record is handed the file, the offset of the record's mark, and what it has to know of the records before; that the
+// mark is there is known already. A wrong record's place is the offset of its mark.
+// Kept: (file, at) stay two parameters: read_list is asked at three offsets of one file, so a struct would be made
+// anew.
 ghost use Rattle.std.specs.Prelude.{◌+◌, ◌≤◌, length};
 ghost use Rattle.rack.specs.Records.{NetIs, net_end, ArcsIs, arcs_end, PrIs, pr_end, QfIs, qf_end, LgIs, lg_end};
 ghost use Rattle.rack.specs.Layout.{FieldsAre, end_at};

@@ -1,7 +1,8 @@
-// The slots of a case: what a right record puts into them. Each kind of record has a struct of its own in the case, so
-// a record changes that struct alone. What a record says stands in rack's specs/Records.antt; whether it is right,
+// The slots of a case: what a right record puts into them. Each kind of record has a struct of its own in the case,
+// so a record changes that struct alone. What a record says stands in rack's specs/Records.antt; whether it is right,
 // crate records tells.
-// Kept: (file, at) stay two parameters: mark_list is asked at three offsets of one file, so a struct would be made anew.
+// Kept: (file, at) stay two parameters: mark_list is asked at three offsets of one file, so a struct would be made
+// anew.
 
 #![tactic(auto)]
 
