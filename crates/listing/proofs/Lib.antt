@@ -1,4 +1,3 @@
-pub mod GivingLaws
 pub mod Cases
 pub mod Listing
 pub mod Whole

@@ -1,11 +1,11 @@
 -- The listing of a case that has been read: what the parts of the two calls promise one another. proofs/Listing.antt leads from here to the outcome
 -- of the whole call.
 -- Assumes nothing.
-use Rattle.std.specs.Prelude.{ℕ, ◌<◌, ◌≤◌, ◌≡◌, Bool, true, false, List, length}
+use Rattle.std.specs.Prelude.{ℕ, ◌<◌, ◌≤◌, ◌≡◌, true, false, List, length}
 use Rattle.rack.specs.Run.{matches}
 use Rattle.rack.specs.Listing.{Asked, NextIs, EndIs}
 use Rattle.rack.specs.ListingOutcome.{limit_most, GivenBad}
-use Rattle.rack.specs.Outcome.{holding, zeroed}
+use Rattle.rack.specs.Outcome.{holding}
 use Rattle.rack.specs.declared.Case.{Case}
 use Rattle.steps.specs.Walkable.{Ready}
 use Rattle.rack.specs.declared.Listed.{Listed}
@@ -23,17 +23,7 @@ pub data CaseListed (c : Case) (limit : ℕ) (asked : Asked) (room : List ℕ) :
   bad : GivenBad c limit asked → CaseListed c limit asked room (Refused 13 0) room
   shown : {x : Listed} {a : List ℕ} → (GivenBad c limit asked → ⊥) → Shown c limit asked room x a → CaseListed c limit asked room x a
 
--- and the work room all zeros after it
-pub record ListedSays (c : Case) (limit : ℕ) (asked : Asked) (room work : List ℕ) (x : Listed) (a w : List ℕ) : Type 0 where
-  pub lists : CaseListed c limit asked room x a
-  pub cleared : w ≡ zeroed work
-
 -- what the listing of a case asks: a case that passes the checks 2 to 9, the table of its reachable markings in the work room, a limit that passes 12
 pub record Listing (c : Case) (work : List ℕ) (rows limit : ℕ) : Type 0 where
   pub ready : Ready c work rows
   pub low : limit ≤ limit_most
-
--- r tells whether the log is longer than the limit: "A log longer than the limit gives the end."
-pub record LogSays (c : Case) (limit : ℕ) (r : Bool) : Type 0 where
-  pub ends : r ≡ true → (asked : Asked) → EndIs c limit asked
-  pub fits : r ≡ false → c.log.count ≤ limit

@@ -1,3 +1,4 @@
+pub mod Asking
 pub mod Barred
 pub mod CaseListed
 pub mod Giving

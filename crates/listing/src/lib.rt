@@ -1,23 +1,21 @@
-// The listing of explanations: the calls `first` and `next`, over every file and every length of room. They open the file (checks 1, 12
-// and 2 to 9), look at the given run (13), work out what can still be finished in so many firings, and give the next explanation by a depth-first search.
-// What their answers mean stands in rack's specs/ListingOutcome.antt.
+// The listing of explanations: the calls `first` and `next`, over every file and every length of room. They open the file
+// (checks 1, 12 and 2 to 9), look at the given run (13), work out what can still be finished in so many firings, and give
+// the next explanation by a depth-first search. What their answers mean stands in rack's specs/ListingOutcome.antt.
 
 #![tactic(auto)]
 
-ghost use Rattle.std.specs.Prelude.{◌≡◌, length};
-ghost use Rattle.rack.specs.Run.{log_of};
 ghost use Rattle.rack.specs.Listing.{from_start, after};
 ghost use Rattle.rack.specs.Outcome.{zeroed};
 ghost use Rattle.rack.specs.ListingOutcome.{ListingIs};
-ghost use Rattle.rack.specs.declared.Listed.TheVariants.{Refused};
-ghost use Rattle.plan.specs.Plan.{planned, plan_size};
-ghost use Rattle.listing.specs.Barred.{Barred, BeginSays};
-ghost use Rattle.listing.specs.CaseListed.{Listing, ListedSays, LogSays};
+ghost use Rattle.listing.specs.Asking.{asked_of, listed_of};
+ghost use Rattle.listing.specs.Barred.{Barred};
+ghost use Rattle.listing.specs.CaseListed.{Listing, CaseListed};
 
-use crate::giving::{give_and_clear, is_good};
-use plan::{PLAN, Plan, events, transitions};
-use rack::{LIMIT_MOST, Listed, REFUSED_GIVEN_RUN, Refusal, WORK_ROOM};
-use seek::Sought;
+use crate::giving::{give, is_good};
+use admit::Opened;
+use plan::Plan;
+use rack::{LIMIT_MOST, Listed, Refusal, WORK_ROOM};
+use steps::table::Table;
 
 mod giving; // giving.rt: giving a run that has been found
 
@@ -34,104 +32,82 @@ fn barred(bytes: usize, limit: usize) -> Result<(), Refusal>
     Ok(())
 }
 
-// A refusal: the work room is all zeros afterwards.
-fn refuse(work: &mut [u8], number: u8, beside: usize) -> Listed
-    ensures value { result ≡ Refused number beside }
-    ensures work_after { work.new ≡ zeroed work.old }
-{
-    room::clear(work);
-    Listed::Refused(number, beside)
-}
-
-// What a listing begins with: the checks 1, 12 and 2 to 9. Where none speaks, the plan is that of the file's case, and the first rows of the work
-// room are its reachable product markings; a refusal leaves the work room all zeros.
-fn begin(file: &[u8], limit: usize, plan: &mut Plan, work: &mut [u8]) -> Result<usize, Refusal>
-    requires { length plan.old ≡ plan_size }
-    ensures { BeginSays file.now limit work.old plan.new work.new result }
-{
-    if let Err(refusal) = barred(work.len(), limit) {
-        room::clear(work);
-        return Err(refusal);
-    }
-    admit::open(file, WORK_ROOM, plan, work)
-}
-
-// Whether the log is longer than the limit: then nothing within the limit explains it.
-fn log_too_long(plan: &Plan, limit: usize) -> bool
-    requires { length (log_of (planned plan.now)) ≡ (planned plan.now).log.count }
-    ensures { LogSays (planned plan.now) limit result }
-{
-    if limit < events(plan) {
-        return true;
-    }
-    false
-}
-
-// The first explanation of a case that passes the checks 2 to 9, whose reachable markings are the first rows of the work room.
-fn first_of<'a, 'o, 'w>(
-    plan: &'a Plan,
+// The explanation that is asked for, of a case that passes the checks 2 to 9, whose reachable markings are the first rows
+// of the work room.
+fn of_case(
+    plan: &Plan,
     rows: usize,
     limit: usize,
-    room: &'o mut [u8],
-    work: &'w mut [u8],
-) -> Listed
-    requires { Listing (planned plan.now) work.old rows limit }
-    ensures { ListedSays (planned plan.now) limit from_start room.old work.old result room.new work.new }
+    given: Option<&[u8]>,
+    room: &mut [u8],
+    work: &mut [u8],
+) -> Result<Listed, Refusal>
+    requires { Listing plan.now work.old rows limit }
+    ensures { CaseListed plan.now limit (asked_of given.entry) room.old (listed_of result) room.new }
 {
-    let mut run = [0u8; LIMIT_MOST];
-    if log_too_long(plan, limit) {
-        return give_and_clear(Sought::Nothing, &run, room, work);
+    if let Some(run) = given
+        && !is_good(run, limit, plan.transitions())
+    {
+        return Err(Refusal::GivenRun);
+    }
+    // nothing within the limit explains a log that is longer
+    if limit < plan.events() {
+        return Ok(Listed::End);
     }
     ahead::fill(plan, work, rows, limit);
-    let sought = seek::first(plan, work, rows, limit, &mut run);
-    give_and_clear(sought, &run, room, work)
+    let table = Table {
+        plan,
+        room: work,
+        rows,
+    };
+    let mut run = [0u8; LIMIT_MOST];
+    let sought = match given {
+        None => seek::first(&table, limit, &mut run),
+        Some(given) => seek::next(&table, limit, given, &mut run),
+    };
+    give(sought, &run, room)
 }
 
-// The first explanation of such a case that comes later than the given run.
-fn next_of<'a, 'g, 'o, 'w>(
-    plan: &'a Plan,
-    rows: usize,
+// The explanation that is asked for: the first check that speaks, 1, 12 and 2 to 9, leaves at once.
+fn of_file(
+    file: &[u8],
     limit: usize,
-    given: &'g [u8],
-    room: &'o mut [u8],
-    work: &'w mut [u8],
-) -> Listed
-    requires { Listing (planned plan.now) work.old rows limit }
-    ensures { ListedSays (planned plan.now) limit (after given.now) room.old work.old result room.new work.new }
+    given: Option<&[u8]>,
+    room: &mut [u8],
+    work: &mut [u8],
+) -> Result<Listed, Refusal>
+    ensures { ListingIs file.now limit (asked_of given.entry) room.old work.old (listed_of result) room.new (zeroed work.old) }
 {
-    if !is_good(given, limit, transitions(plan)) {
-        return refuse(work, REFUSED_GIVEN_RUN, 0);
-    }
-    let mut run = [0u8; LIMIT_MOST];
-    if log_too_long(plan, limit) {
-        return give_and_clear(Sought::Nothing, &run, room, work);
-    }
-    ahead::fill(plan, work, rows, limit);
-    let sought = seek::next(plan, work, rows, limit, given, &mut run);
-    give_and_clear(sought, &run, room, work)
+    barred(work.len(), limit)?;
+    let Opened { plan, rows } = admit::open(file, WORK_ROOM, work)?;
+    of_case(&plan, rows, limit, given, room, work)
 }
 
-// The first explanation of the case in a file, at most the limit long, with its mark; or the end. Its bytes are written to the front of the room, and
-// nothing else there changes; the end and a refusal change nothing. The work room is all zeros afterwards, however long it is.
+// The answer of a call that asks from the start, or after a given run. Whatever it is, the work room is all zeros
+// afterwards.
+fn list(file: &[u8], limit: usize, given: Option<&[u8]>, room: &mut [u8], work: &mut [u8]) -> Listed
+    ensures { ListingIs file.now limit (asked_of given.entry) room.old work.old result room.new work.new }
+{
+    let listed = of_file(file, limit, given, room, work);
+    work.fill(0);
+    match listed {
+        Ok(listed) => listed,
+        Err(refusal) => Listed::Refused(refusal.number(), refusal.beside()),
+    }
+}
+
+// The first explanation of the case in a file, at most the limit long, with its mark; or the end. Its bytes are written to
+// the front of the room, and nothing else there changes; the end and a refusal change nothing. The work room is all zeros
+// afterwards, however long it is.
 pub fn first(file: &[u8], limit: usize, room: &mut [u8], work: &mut [u8]) -> Listed
     ensures { ListingIs file.now limit from_start room.old work.old result room.new work.new }
 {
-    let mut plan = [0u64; PLAN];
-    let answer = begin(file, limit, &mut plan, work);
-    match answer {
-        Err(refusal) => Listed::Refused(refusal.number(), refusal.beside()),
-        Ok(rows) => first_of(&plan, rows, limit, room, work),
-    }
+    list(file, limit, None, room, work)
 }
 
 // The same after a given run: the first explanation that comes later than it, whether or not it explains anything itself.
 pub fn next(file: &[u8], limit: usize, given: &[u8], room: &mut [u8], work: &mut [u8]) -> Listed
     ensures { ListingIs file.now limit (after given.now) room.old work.old result room.new work.new }
 {
-    let mut plan = [0u64; PLAN];
-    let answer = begin(file, limit, &mut plan, work);
-    match answer {
-        Err(refusal) => Listed::Refused(refusal.number(), refusal.beside()),
-        Ok(rows) => next_of(&plan, rows, limit, given, room, work),
-    }
+    list(file, limit, Some(given), room, work)
 }
