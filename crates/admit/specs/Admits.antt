@@ -1,6 +1,5 @@
--- What opening a file answers: the plan of its case and the table of its reachable product markings where none of the checks 1 to 9 speaks, else the
--- first that does.
--- Assumes nothing.
+-- What opening a file answers: the plan of its case and the table of its reachable product markings where none of the
+-- checks 1 to 9 speaks, else the first that does. Assumes nothing.
 use Rattle.std.specs.Prelude.{ℕ, ◌<◌, ◌≤◌, ◌≡◌, List, length, Result, Ok, Err}
 use Rattle.rack.specs.Layout.{ReadsAs, BreaksAt}
 use Rattle.rack.specs.WellFormed.{WellFormed}
@@ -33,12 +32,14 @@ pub data RefusedFile (f : List ℕ) : ℕ → ℕ → Type 0 where
   of_layout : {p : ℕ} → BreaksAt f p → RefusedFile f 2 p
   of_nets : {c : Case} {n m : ℕ} → ReadsAs f c → NetsRefuse c n m → RefusedFile f n m
 
--- in a work room of that length, of which `needed` bytes are needed, the first of 1 to 9 that speaks is n, with m beside it
+-- in a work room of that length, of which `needed` bytes are needed, the first of 1 to 9 that speaks is n, with m
+-- beside it
 pub data OpenRefuses (f : List ℕ) (needed long : ℕ) : ℕ → ℕ → Type 0 where
   short : long < needed → OpenRefuses f needed long 1 0
   of_refused_file : {n m : ℕ} → needed ≤ long → RefusedFile f n m → OpenRefuses f needed long n m
 
--- none speaks: the plan is that of the file's case, and the first n rows of the work room are its reachable product markings
+-- none speaks: the plan is that of the file's case, and the first n rows of the work room are its reachable product
+-- markings
 pub record OpenedIs (f : List ℕ) (needed : ℕ) (work₀ : List ℕ) (plan : Case) (work : List ℕ) (n : ℕ) : Type 0 where
   pub enough : needed ≤ length work₀
   pub long : length work ≡ length work₀

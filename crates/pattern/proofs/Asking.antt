@@ -1,4 +1,5 @@
--- What a chain `any` over the numbers below a bound answers, where its test tells whether a statement holds. Assumes nothing.
+-- What a chain `any` over the numbers below a bound answers, where its test tells whether a statement holds. Assumes
+-- nothing.
 use Prim.Native.Nat.{ℕ, ◌<◌}
 use mathlib.Core.Path.{◌≡◌, refl}
 use mathlib.Core.Bool.{Bool, true, false}

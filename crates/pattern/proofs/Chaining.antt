@@ -1,7 +1,7 @@
--- Marks that spread along the priority pairs of a case mark just what chains of pairs lead down to, and a pair that leads back to itself is
--- a cycle. These laws speak of the case alone. Assumes nothing.
+-- Marks that spread along the priority pairs of a case mark just what chains of pairs lead down to, and a pair that
+-- leads back to itself is a cycle. These laws speak of the case alone. Assumes nothing.
 use Prim.Native.Nat.{ℕ, zero, suc, ◌+◌, ◌<◌}
-use mathlib.Core.Path.{◌≡◌, refl, sym, ap, ◌∙◌, subst}
+use mathlib.Core.Path.{◌≡◌, refl, sym, ◌∙◌, subst}
 use mathlib.Core.Bool.{Bool, true, false, false≢true}
 use mathlib.Core.List.{List, [], ◌∷◌}
 use native.Mathlib.Nat.{le_of_suc-le-suc, not-suc-le-zero}
@@ -37,9 +37,6 @@ unmarked_less (x ∷ l) (suc i) h n = let rec = unmarked_less l i (le_of_suc-le-
 abbrev pub OpenPair : Case → List Bool → ℕ → Type 0
 OpenPair c marks k = (get_or marks (get_or c.pairs.higher k 0) false ≡ true) × (get_or marks (get_or c.pairs.lower k 0) false ≡ false)
 
-pub none_open : {c : Case} {marks : List Bool} → ((k : ℕ) → k < c.pairs.count → OpenPair c marks k → ⊥) → (t : ℕ) → OpenAt c marks t → ⊥
-none_open {marks = marks} none t o = none o.pair o.below (o.marked, ap (λ (u : ℕ). get_or marks u false) o.is ∙ o.fresh)
-
 -- ---- the pairs of a case
 
 module _ (c : Case) where
@@ -61,12 +58,6 @@ module _ (c : Case) where
 
 -- a case that was read has at most 32 pairs, and each names transitions below 48
 module _ {c : Case} (well : WellFormed c) (k : ℕ) (h : k < c.pairs.count) where
-  pub pair_low : k < 32
-  pair_low = omega (arith, well.pairs.highers.few)
-
-  pub higher_low : get_or c.pairs.higher k 0 < 48
-  higher_low = omega (arith, well.pairs.highers.below k h, well.arcs.names.few)
-
   pub lower_low : get_or c.pairs.lower k 0 < 48
   lower_low = omega (arith, well.pairs.lowers.below k h, well.arcs.names.few)
 

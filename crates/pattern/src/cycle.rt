@@ -23,8 +23,8 @@ fn open_pair(marks: &[bool; 48], plan: &Plan) -> Option<SystemTransition>
     None
 }
 
-// Whether a chain of pairs, perhaps of none, leads from one transition down to another: marks spread from the one
-// along the pairs until no pair leads from a marked transition to one that is not.
+// Whether a chain of pairs, perhaps of none, leads from one transition down to another: marks spread from the one along
+// the pairs until no pair leads from a marked transition to one that is not.
 fn leads_down(from: SystemTransition, goal: SystemTransition, plan: &Plan) -> bool
     requires well_formed { WellFormed plan.now }
     requires from_bound { (from.0 < 48) × (goal.0 < 48) }

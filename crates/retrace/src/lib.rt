@@ -17,8 +17,8 @@ use rack::{Outcome, Refusal, Replayed, Stop};
 
 mod firing; // firing.rt: the firings, one after the other
 
-// What the firings of a run came to: how many they were, the marking after them, the position in the log, if they
-// kept to it, and why there was no other.
+// What the firings of a run came to: how many they were, the marking after them, the position in the log, if they kept
+// to it, and why there was no other.
 #[derive(Clone, Copy, Debug, PartialEq, Eq)]
 struct Fired {
     pub fired: usize,
@@ -59,8 +59,8 @@ fn replay(plan: &Plan, run: &[u8], budget: u16) -> Replayed
     }
 }
 
-// Replays a run on the case of a file, firing at most `budget` transitions; or refuses by the first of the checks 2
-// to 7 that speaks. The plan of the case is made once; the checks and the firings are lent it.
+// Replays a run on the case of a file, firing at most `budget` transitions; or refuses by the first of the checks 2 to
+// 7 that speaks. The plan of the case is made once; the checks and the firings are lent it.
 pub fn retrace(file: &[u8], run: &[u8], budget: u16) -> Replayed
     ensures { ReplayIs file.now run.now budget result }
 {

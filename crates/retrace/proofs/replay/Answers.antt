@@ -1,5 +1,5 @@
--- `retrace::replay` meets its contract: the firings, whether the marking after them is final, and whether run and log ended together.
--- Assumes nothing.
+-- `retrace::replay` meets its contract: the firings, whether the marking after them is final, and whether run and log
+-- ended together. Assumes nothing.
 use Prim.Native.Nat.{ℕ}
 use mathlib.Core.Path.{◌≡◌, sym, ◌∙◌}
 use mathlib.Core.Bool.{true, false, false≢true}

@@ -1,5 +1,5 @@
--- `pattern::cycle::leads_down` meets its contract. The invariant: what is marked is what chains of pairs lead to from the first transition.
--- The measure is how many transitions have no mark. Assumes nothing.
+-- `pattern::cycle::leads_down` meets its contract. The invariant: what is marked is what chains of pairs lead to from
+-- the first transition. The measure is how many transitions have no mark. Assumes nothing.
 use Prim.Native.Nat.{◌<◌}
 use native.Mathlib.Omega.{arith}
 use Rattle.pattern.proofs.Chaining.{unmarked_less, lower_low, spread_start, spread_more, spread_end}

@@ -1,5 +1,5 @@
--- `pattern::cycle::leads_down` meets its contract. The invariant: what is marked is what chains of pairs lead to from the first transition.
--- The measure is how many transitions have no mark. Assumes nothing.
+-- `pattern::cycle::leads_down` meets its contract. The invariant: what is marked is what chains of pairs lead to from
+-- the first transition. The measure is how many transitions have no mark. Assumes nothing.
 use Rattle.pattern.proofs.Chaining.{unmarked, Spread}
 use Rattle.pattern.proofs.cycle.leads_down.Given as goal
 
