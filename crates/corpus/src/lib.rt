@@ -45,21 +45,18 @@ pub fn number<const BYTES: usize>(from: &mut impl Read) -> io::Result<Option<usi
     Ok(Some(held(&bytes)))
 }
 
-// The next part, with its length in three bytes before it, at the front of the room. A part that is longer than the
-// room ends the corpus.
-pub fn part<'r>(from: &mut impl Read, room: &'r mut [u8]) -> io::Result<Option<&'r [u8]>>
-    ensures { IfOk result (λ part. IfSome part (λ bytes. length bytes.now ≤ length room.old)) }
+// The next part, with its length in three bytes before it. A part that is longer than the room ends the corpus.
+pub fn part(from: &mut impl Read, room: &mut [u8]) -> io::Result<Option<usize>>
+    ensures ok { IfOk result (λ part. IfSome part (λ n. n ≤ length room.new)) }
+    ensures err { OnErr result (length room.new ≡ length room.old) }
 {
     let Some(n) = number::<3>(from)? else {
         return Ok(None);
     };
-    let Some(room) = room.get_mut(..n) else {
-        return Ok(None);
-    };
-    if read_full(from, room)? < n {
+    if room.len() < n || read_full(from, &mut room[..n])? < n {
         return Ok(None);
     }
-    Ok(Some(room))
+    Ok(Some(n))
 }
 
 // Whether every byte of a room from `from` on is v.

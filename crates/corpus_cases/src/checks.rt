@@ -29,11 +29,11 @@ pub fn ask(
     table: &mut [u8],
     work: &mut [u8],
 ) -> io::Result<()> {
-    let Some(file) = corpus::part(from, file)? else {
+    let Some(n) = corpus::part(from, file)? else {
         return Ok(());
     };
-    let Some(table) = corpus::part(from, table)? else {
+    let Some(rows) = corpus::part(from, table)? else {
         return Ok(());
     };
-    answer(rt, file, table, work)
+    answer(rt, first(file, n), first(table, rows), work)
 }

@@ -30,7 +30,7 @@ fn answer(rt: &impl Print, file: &[u8]) -> io::Result<()> {
 // Takes an entry: a file.
 pub fn ask(rt: &impl Print, from: &mut impl Read, room: &mut [u8]) -> io::Result<()> {
     match corpus::part(from, room)? {
-        Some(file) => answer(rt, file),
+        Some(n) => answer(rt, first(room, n)),
         None => Ok(()),
     }
 }

@@ -3,7 +3,7 @@
 // the run given has changed, or the work room is not all zeros afterwards.
 use crate::{FULL, WORK_FULL};
 use rack::Listed;
-use report::Listing;
+use report::{Listing, first};
 use std::io;
 use std::io::Read;
 
@@ -75,15 +75,15 @@ pub fn ask(
     let Some(asking) = asked(from)? else {
         return Ok(());
     };
-    let Some(given) = corpus::part(from, given)? else {
+    let Some(r) = corpus::part(from, given)? else {
         return Ok(());
     };
-    let Some(file) = corpus::part(from, file)? else {
+    let Some(n) = corpus::part(from, file)? else {
         return Ok(());
     };
     let (Some(room), Some(work)) = (room.get_mut(..asking.room), work.get_mut(..asking.work)) else {
         return Ok(());
     };
-    let given = asking.after.then_some(given);
-    answer(rt, file, asking.limit, given, room, work)
+    let given = asking.after.then_some(first(given, r));
+    answer(rt, first(file, n), asking.limit, given, room, work)
 }

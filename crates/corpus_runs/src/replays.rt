@@ -1,6 +1,6 @@
 // A file, a run and a budget: the replay. Prints what was fired, the marking reached, whether it is final, why it
 // stopped and whether the run explains the log; or the refusal.
-use report::Replay;
+use report::{Replay, first};
 use std::io;
 use std::io::Read;
 
@@ -27,11 +27,11 @@ pub fn ask(
     let Some(budget) = corpus::number::<2>(from)? else {
         return Ok(());
     };
-    let Some(run) = corpus::part(from, run)? else {
+    let Some(r) = corpus::part(from, run)? else {
         return Ok(());
     };
-    let Some(file) = corpus::part(from, file)? else {
+    let Some(n) = corpus::part(from, file)? else {
         return Ok(());
     };
-    answer(rt, file, run, budget as u16)
+    answer(rt, first(file, n), first(run, r), budget as u16)
 }

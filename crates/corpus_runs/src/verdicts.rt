@@ -2,7 +2,7 @@
 // runs are lent full of 170, the work room full of 255; the line says so if anything beyond the shown runs has
 // changed, or the work room is not all zeros afterwards.
 use crate::{FULL, WORK_FULL};
-use report::Judgement;
+use report::{Judgement, first};
 use std::io;
 use std::io::Read;
 
@@ -73,7 +73,7 @@ pub fn ask(
     let Some(asking) = asked(from)? else {
         return Ok(());
     };
-    let Some(file) = corpus::part(from, file)? else {
+    let Some(n) = corpus::part(from, file)? else {
         return Ok(());
     };
     let (Some(matching), Some(other), Some(work)) = (
@@ -83,5 +83,5 @@ pub fn ask(
     ) else {
         return Ok(());
     };
-    answer(rt, file, matching, other, work)
+    answer(rt, first(file, n), matching, other, work)
 }

@@ -49,11 +49,11 @@ pub fn ask(
     let Some(length) = corpus::number::<2>(from)? else {
         return Ok(());
     };
-    let Some(file) = corpus::part(from, file)? else {
+    let Some(n) = corpus::part(from, file)? else {
         return Ok(());
     };
     let Some(room) = room.get_mut(..length) else {
         return Ok(());
     };
-    answer(rt, memory::case(from)?, room, file)
+    answer(rt, memory::case(from)?, room, first(file, n))
 }
