@@ -48,6 +48,7 @@ fn answer(rt: &impl Print, file: &[u8], run: &[u8], budget: u16) -> io::Result<(
 }
 
 fn main(rt: HostRuntime) -> io::Result<()> {
+    // The program's name, BUDGET and the N.
     let count = match arguments::count(&rt) {
         n @ 2..=65538 => n - 2,
         _ => return usage(&rt),
