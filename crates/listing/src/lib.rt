@@ -1,6 +1,7 @@
-// The listing of explanations: the calls `first` and `next`, over every file and every length of room. They open the file
-// (checks 1, 12 and 2 to 9), look at the given run (13), work out what can still be finished in so many firings, and give
-// the next explanation by a depth-first search. What their answers mean stands in rack's specs/ListingOutcome.antt.
+// The listing of explanations: the calls `first` and `next`, over every file and every length of room. They open the
+// file (checks 1, 12 and 2 to 9), look at the given run (13), work out what can still be finished in so many firings,
+// and give the next explanation by a depth-first search. What their answers mean stands in rack's
+// specs/ListingOutcome.antt.
 
 #![tactic(auto)]
 
@@ -32,8 +33,8 @@ fn barred(bytes: usize, limit: usize) -> Result<(), Refusal>
     Ok(())
 }
 
-// The explanation that is asked for, of a case that passes the checks 2 to 9, whose reachable markings are the first rows
-// of the work room.
+// The explanation that is asked for, of a case that passes the checks 2 to 9, whose reachable markings are the first
+// rows of the work room.
 fn of_case(
     plan: &Plan,
     rows: usize,
@@ -96,16 +97,17 @@ fn list(file: &[u8], limit: usize, given: Option<&[u8]>, room: &mut [u8], work: 
     }
 }
 
-// The first explanation of the case in a file, at most the limit long, with its mark; or the end. Its bytes are written to
-// the front of the room, and nothing else there changes; the end and a refusal change nothing. The work room is all zeros
-// afterwards, however long it is.
+// The first explanation of the case in a file, at most the limit long, with its mark; or the end. Its bytes are
+// written to the front of the room, and nothing else there changes; the end and a refusal change nothing. The work
+// room is all zeros afterwards, however long it is.
 pub fn first(file: &[u8], limit: usize, room: &mut [u8], work: &mut [u8]) -> Listed
     ensures { ListingIs file.now limit from_start room.old work.old result room.new work.new }
 {
     list(file, limit, None, room, work)
 }
 
-// The same after a given run: the first explanation that comes later than it, whether or not it explains anything itself.
+// The same after a given run: the first explanation that comes later than it, whether or not it explains anything
+// itself.
 pub fn next(file: &[u8], limit: usize, given: &[u8], room: &mut [u8], work: &mut [u8]) -> Listed
     ensures { ListingIs file.now limit (after given.now) room.old work.old result room.new work.new }
 {

@@ -1,7 +1,6 @@
 // The rack: the case in memory and the answers of every call. What each of them means stands in specs/, beside the
 // sentences of document 01. A case keeps one struct for each kind of record; slots that a case does not use hold
-// zeros. The only functions here give a mark's row, a refusal's two numbers, and the answers of three calls that a
-// refusal makes.
+// zeros. The only functions here give a mark's row, a refusal's two numbers, and what a refusal answers in two calls.
 
 #![tactic(auto)]
 
