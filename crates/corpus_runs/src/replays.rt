@@ -33,5 +33,6 @@ pub fn ask(
     let Some(n) = corpus::part(from, file)? else {
         return Ok(());
     };
+    // Kept: `as`. std has no `From` for a narrower type, and that it fits is proved.
     answer(rt, first(file, n), first(run, r), budget as u16)
 }

@@ -26,6 +26,7 @@ pub fn push_row<const N: usize>(file: &mut ArrayVec<u8, N>, row: &[u8])
     requires fits { array_vec_len file.old + 1 + length row.now ≤ N }
     ensures { Extends file.old (row_bytes row.now 0 (length row.now)) file.new }
 {
+    // Kept: `as`. std has no `From` for a narrower type, and that it fits is proved.
     file.push(row.iter().filter(|x| **x == 1).count() as u8);
     for (p, x) in row.iter().enumerate() {
         if *x == 1 {

@@ -23,6 +23,9 @@ pub const LIMIT_MOST: usize = 24;
 // "The longest file has 2,496 bytes.": `longest_file` in specs/CaseFileOutcome.antt.
 pub const LONGEST_FILE: usize = 2496;
 
+// Kept: arrays with a count beside. The project allocates no heap, and `case_of_zeros` and `WellFormed` speak of the
+// slots that a case does not use: they hold zeros.
+
 // NT and PT: how many places a net has, its cap, and each place's first tokens. The system has at most 16 places and
 // the pattern 8.
 #[derive(Clone, Copy, Debug, PartialEq, Eq)]
@@ -85,6 +88,8 @@ pub struct Case {
     pub bounds: Bounds,
     pub log: Log,
 }
+
+// Kept: a type for each net. 01 names one tuple struct for system transition numbers and one for the pattern's.
 
 // The number of a transition of the system, and the number of one of the pattern. Each net counts its own from zero.
 #[derive(Clone, Copy, Debug, PartialEq, Eq)]
@@ -170,6 +175,9 @@ impl Refusal {
         }
     }
 }
+
+// Kept: the answers of the calls are enums of their own. 01 has the refusal case carry its number and the number beside
+// it, and a refused reading hold the case of all zeros (`ReaderIs`, `WriterIs`, `VerdictIs`, `ListingIs`, `ReplayIs`).
 
 // Reader: the file reads as the case, or is refused. A refusal carries its number and the number beside it, here as
 // in every other answer.

@@ -29,6 +29,7 @@ fn take_run(rt: &impl Env, run: &mut [u8]) -> Option<()>
     requires { length run.old ≤ 65536 }
 {
     for (i, number) in run.iter_mut().enumerate() {
+        // Kept: `as`. std has no `From` for a narrower type, and that it fits is proved.
         *number = argument(rt, i + 2, 255)? as u8;
     }
     Some(())
@@ -62,5 +63,6 @@ fn main(rt: HostRuntime) -> io::Result<()> {
     }
     let mut file = [0u8; LONGEST_FILE + 1];
     let n = input::read_full(&mut rt.stdin(), &mut file)?;
+    // Kept: `as`. std has no `From` for a narrower type, and that it fits is proved.
     answer(&rt, &file[..n], &run[..count], budget as u16)
 }
