@@ -26,19 +26,21 @@ judgement_text j =
     let matching : List ℕ = codes "F " ++ run_text (take j.judged.matching j.matching.now) in
     let other : List ℕ = codes "C " ++ run_text (take j.judged.other j.other.now) in
     elim j.judged.verdict [
-      Verdicts.Faulty ↦ codes "faulty" ++ j.between.now ++ matching
-    | Verdicts.Safe ↦ codes "safe" ++ j.between.now ++ other
-    | Verdicts.Ambiguous ↦ codes "ambiguous" ++ j.between.now ++ matching ++ j.between.now ++ other
-    | Verdicts.Refused number beside ↦ refused_text number beside ]
+      | Verdicts.Faulty ↦ codes "faulty" ++ j.between.now ++ matching
+      | Verdicts.Safe ↦ codes "safe" ++ j.between.now ++ other
+      | Verdicts.Ambiguous ↦ codes "ambiguous" ++ j.between.now ++ matching ++ j.between.now ++ other
+      | Verdicts.Refused number beside ↦ refused_text number beside
+    ]
 
 -- an answer of the listing, with the run that stands at the front of its room
 abbrev pub listing_text : Listing → List ℕ
 listing_text l =
     elim l.listed [
-      Listings.Matching n ↦ codes "F " ++ run_text (take n l.room.now)
-    | Listings.Other n ↦ codes "C " ++ run_text (take n l.room.now)
-    | Listings.End ↦ codes "end"
-    | Listings.Refused number beside ↦ refused_text number beside ]
+      | Listings.Matching n ↦ codes "F " ++ run_text (take n l.room.now)
+      | Listings.Other n ↦ codes "C " ++ run_text (take n l.room.now)
+      | Listings.End ↦ codes "end"
+      | Listings.Refused number beside ↦ refused_text number beside
+    ]
 
 -- a replay that was made: how many it fired, the marking with a text before it, whether that is final, why it stopped,
 -- and whether the run explains the log, with a text between them
@@ -54,8 +56,9 @@ made_text r why =
 abbrev pub replay_text : Replay → List ℕ
 replay_text r =
     elim r.done.stop [
-      Stops.RunEnded ↦ made_text r (codes "run ended")
-    | Stops.BudgetSpent ↦ made_text r (codes "budget spent")
-    | Stops.NotFirable ↦ made_text r (codes "not firable")
-    | Stops.CapPassed ↦ made_text r (codes "cap passed")
-    | Stops.Refused number beside ↦ refused_text number beside ]
+      | Stops.RunEnded ↦ made_text r (codes "run ended")
+      | Stops.BudgetSpent ↦ made_text r (codes "budget spent")
+      | Stops.NotFirable ↦ made_text r (codes "not firable")
+      | Stops.CapPassed ↦ made_text r (codes "cap passed")
+      | Stops.Refused number beside ↦ refused_text number beside
+    ]
