@@ -33,6 +33,6 @@ pub fn ask(
     let Some(n) = corpus::part(from, file)? else {
         return Ok(());
     };
-    // Kept: `as`. std has no `From` for a narrower type, and that it fits is proved.
+    // Kept: `as`. std has no `From` for a narrower type, and `try_from` would answer an error that the proof excludes.
     answer(rt, first(file, n), first(run, r), budget as u16)
 }

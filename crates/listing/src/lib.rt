@@ -61,6 +61,7 @@ fn of_case(
         room: work,
         rows,
     };
+    // Kept: an array and a length. The project allocates no heap, and what stands behind the run is looked at by none.
     let mut run = [0u8; LIMIT_MOST];
     let sought = match given {
         None => seek::first(&table, limit, &mut run),

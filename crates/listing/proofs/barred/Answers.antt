@@ -1,4 +1,4 @@
--- `listing::barred` gives the number of the check that speaks first, 1 or 12. Assumes nothing.
+-- `listing::barred` gives the refusal of the check that speaks first, 1 or 12, or none. Assumes nothing.
 use Rattle.std.proofs.Common.{arith}
 use Rattle.listing.specs.Barred.{by_room, by_limit, by_neither}
 use Rattle.listing.proofs.barred.Goals as goal
