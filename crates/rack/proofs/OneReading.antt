@@ -17,7 +17,7 @@ use Rattle.rack.specs.declared.Mark.{Mark}
 use Rattle.rack.specs.declared.Mark.TheVariants.{Nt, Tr, Pr, Ob, Pt, Px, Qf, Lg, En}
 
 -- "Nothing follows EN."
-nothing_after_en : (m : Mark) → can_follow (Some En) m ≡ true → ⊥
+pub nothing_after_en : (m : Mark) → can_follow (Some En) m ≡ true → ⊥
 unfolding follows
 nothing_after_en Nt e = true≢false (sym e)
 nothing_after_en Tr e = true≢false (sym e)

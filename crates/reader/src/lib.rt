@@ -54,8 +54,9 @@ pub fn read_case(file: &[u8]) -> Reading
     let mut last = None;
     let mut at = 0;
     while last != Some(Mark::En) {
-        let mark = match mark_at(file, at) {
-            Some(mark) if may_follow(last, mark) => mark,
+        let next = mark_at(file, at);
+        let mark = match next {
+            Some(mark) if may_follow(last, next) => mark,
             _ => return refused(at),
         };
         let end = match read_record(file, at, mark, case) {

@@ -1,6 +1,7 @@
 // Marks: which one stands at an offset of a file, and which may follow which.
 ghost use Rattle.std.specs.Prelude.{◌≡◌, ◌≤◌, length};
-ghost use Rattle.rack.specs.Marks.{mark_found, can_follow};
+ghost use Rattle.rack.specs.Marks.{mark_found};
+ghost use Rattle.records.specs.Following.{may_come};
 
 use rack::Mark;
 
@@ -42,12 +43,14 @@ pub fn mark_at(file: &[u8], at: usize) -> Option<Mark>
     }
 }
 
-// Whether the mark `next` may stand after the mark `last`, or as the first of all. NT comes first.
-pub fn may_follow(last: Option<Mark>, next: Mark) -> bool
-    ensures { result ≡ can_follow last next }
+// Whether the mark `next` may stand after the mark `last`, or as the first of all. NT comes first. What is no mark may
+// stand nowhere.
+pub fn may_follow(last: Option<Mark>, next: Option<Mark>) -> bool
+    ensures { result ≡ may_come last next }
 {
-    match last {
-        None => next == Mark::Nt,
-        Some(last) => FOLLOWS[last.number()][next.number()],
+    match (last, next) {
+        (_, None) => false,
+        (None, Some(next)) => next == Mark::Nt,
+        (Some(last), Some(next)) => FOLLOWS[last.number()][next.number()],
     }
 }

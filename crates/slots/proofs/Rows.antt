@@ -23,7 +23,7 @@ byte_of_part f from n j h = get_or-take n (drop from f) j 0 h ∙ get_or-drop fr
 
 -- ---- pasted
 
-paste_turn : (d : List ℕ) (at : ℕ) (s : List ℕ) (j : ℕ) (room : List ℕ) → at + j < length d → j < length s
+pub paste_turn : (d : List ℕ) (at : ℕ) (s : List ℕ) (j : ℕ) (room : List ℕ) → at + j < length d → j < length s
     → room ≡ paste d at s j → set room (at + j) (get_or s j 0) ≡ paste d at s (j + 1)
 paste_turn d at s j room hd hs e =
     ap (λ (r : List ℕ). set r (at + j) (get_or s j 0)) e ∙ paste-suc d at s j 0 hd hs ∙ ap (paste d at s) (sym (add-one j))
@@ -31,7 +31,7 @@ paste_turn d at s j room hd hs e =
 -- ---- a list that rises
 
 -- each of its numbers is below the bound
-rising_below : (low b : ℕ) (l : List ℕ) → rising low b l ≡ true → (j : ℕ) → j < length l → get_or l j 0 < b
+pub rising_below : (low b : ℕ) (l : List ℕ) → rising low b l ≡ true → (j : ℕ) → j < length l → get_or l j 0 < b
 rising_below low b [] r j h = absurd (not-suc-le-zero h)
 rising_below low b (x ∷ xs) r zero h = head_high low b x xs r
 rising_below low b (x ∷ xs) r (suc j) h = rising_below (x + 1) b xs (tail_rises low b x xs r) j (le_of_suc-le-suc h)

@@ -14,7 +14,7 @@ loop-last-init c = start c.args.file.now _ c.zero_case-case.ensures
 pub returns-in_default : goal.returns-in_default
 returns-in_default c =
     let goes_on : c.loop-last.last ≡ Some En → ⊥ = search rules in
-    let stands = sym c.mark_at.ensures in
+    let stands = sym c.mark_at-next.ensures in
     refuses c.refused.ensures
     (elim c.in_default.branch [
       | in_default-via-in-Some+else-may_follow w ↦ wrong_mark c.loop-last.invariant goes_on (stands ∙ w.in-Some.is) (sym w.may_follow.ensures ∙ w.if-may_follow.false)
@@ -25,12 +25,12 @@ pub returns-in-Err : goal.returns-in-Err
 returns-in-Err c =
     let goes_on : c.loop-last.last ≡ Some En → ⊥ = search rules in
     refuses c.refused-in-Err.ensures
-    (wrong_fields c.loop-last.invariant goes_on (sym c.mark_at.ensures ∙ c.in-Some.is) c.read_record.ensures c.in-Err.is)
+    (wrong_fields c.loop-last.invariant goes_on (sym c.mark_at-next.ensures ∙ c.in-Some.is) c.read_record.ensures c.in-Err.is)
 
 pub loop-last-preserved : goal.loop-last-preserved
 loop-last-preserved c =
     let right : Right c.args.file.now c.loop-last.case c.loop-last.at c.in-Some.mark c.in-Ok.end =
-    right_record c.loop-last.invariant (sym c.mark_at.ensures ∙ c.in-Some.is) (sym c.may_follow.ensures ∙ c.if-may_follow.true) c.read_record.ensures c.in-Ok.is in
+    right_record c.loop-last.invariant (sym c.mark_at-next.ensures ∙ c.in-Some.is) (sym c.may_follow.ensures ∙ c.if-may_follow.true) c.read_record.ensures c.in-Ok.is in
     right.turn c.add.ensures
 
 pub returns-then-at-file : goal.returns-then-at-file

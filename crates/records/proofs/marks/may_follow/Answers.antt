@@ -4,8 +4,9 @@ use Rattle.rack.proofs.WellFormed.{number_small}
 use Rattle.records.proofs.Table.{row_entry}
 use Rattle.records.proofs.marks.may_follow.Goals as goal
 
-pub returns-in-Some : goal.returns-in-Some
+pub returns-in-Some-Some : goal.returns-in-Some-Some
 unfolding follows
-returns-in-Some c =
-    rw (c.in-Some.is, c.number.ensures, c.number-in-Some.ensures)
-    (row_entry _ _ (number_of c.in-Some.last) (number_of c.args.next) (number_small c.in-Some.last) (number_small c.args.next))
+returns-in-Some-Some c =
+    rw (c.in-Some-Some.is-0, c.in-Some-Some.is-1, c.number.ensures, c.number-in-Some-Some.ensures)
+    (row_entry _ _ (number_of c.in-Some-Some.last) (number_of c.in-Some-Some.next) (number_small c.in-Some-Some.last)
+    (number_small c.in-Some-Some.next))
