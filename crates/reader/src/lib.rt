@@ -59,7 +59,7 @@ pub fn read_case(file: &[u8]) -> Reading
             Some(mark) if may_follow(last, next) => mark,
             _ => return refused(at),
         };
-        let end = match read_record(file, at, mark, case) {
+        let end = match read_record(file, at, mark, &case) {
             Ok(end) => end,
             Err(Misplaced { place }) => return refused(place),
         };

@@ -97,9 +97,9 @@ fn read_lg(file: &[u8], at: usize, flags: &[u8; 32]) -> Result<usize, Misplaced>
 }
 
 // Reads the record at `at`, whose mark is `mark`, after records that say what `case` holds.
-pub fn read_record(file: &[u8], at: usize, mark: Mark, case: Case) -> Result<usize, Misplaced>
+pub fn read_record(file: &[u8], at: usize, mark: Mark, case: &Case) -> Result<usize, Misplaced>
     requires { at + 2 ≤ length file.now }
-    ensures { Answers (FieldsAre mark case file.now at) (end_at mark case file.now at) at result }
+    ensures { Answers (FieldsAre mark case.now file.now at) (end_at mark case.now file.now at) at result }
 {
     match mark {
         Mark::Nt => read_net(file, at, 16),
