@@ -1,6 +1,7 @@
 -- `reader::read_case` meets its contract. The loop's invariant is `SoFar` of proofs/Turns.antt; the measure is what is left of the
 -- file. Assumes nothing.
 use Rattle.std.proofs.Common.{◌≡◌, Some, sym, ◌∙◌, rules}
+use native.Mathlib.Omega.{arith}
 use Rattle.rack.specs.CaseFileOutcome.{read}
 use Rattle.rack.specs.declared.Mark.TheVariants.{En}
 use Rattle.reader.proofs.Turns.{start, left_over, all_read, no_mark, wrong_mark, wrong_fields, Right, right_record}
@@ -36,7 +37,7 @@ loop-last-preserved c =
 pub returns-then-at-file : goal.returns-then-at-file
 returns-then-at-file c =
     let over : c.loop-last.last ≡ Some En = search rules in
-    refuses c.refused-then-at-file.ensures (left_over c.loop-last.invariant over c.if-at-file.true)
+    refuses c.refused-then-at-file.ensures (left_over c.loop-last.invariant over (omega (arith, c.if-at-file.true, c.loop-last.invariant.inside)))
 
 pub returns : goal.returns
 returns c =
