@@ -10,7 +10,6 @@ use Rattle.rack.specs.Outcome.{zeroed}
 use Rattle.rack.specs.declared.Case.{Case}
 use Rattle.rack.specs.declared.Refusal.{Refusal}
 use Rattle.reach.specs.Table.{TableOf}
-use Rattle.admit.specs.declared.Opened.{Opened}
 
 -- ---- the checks 3 to 9 of a case that has been read
 
@@ -47,10 +46,10 @@ pub record OpenedIs (f : List ℕ) (needed : ℕ) (work₀ : List ℕ) (plan : C
   pub passes : Passes plan work n
 
 -- the checks are made; what one of them that speaks has found so far may still stand in the work room
-abbrev pub CheckedSays : List ℕ → ℕ → List ℕ → List ℕ → Result Opened Refusal → Type 0
-CheckedSays f needed work₀ work (Ok o) = OpenedIs f needed work₀ o.plan work o.rows
-CheckedSays f needed work₀ work (Err r) = (length work ≡ length work₀) × OpenRefuses f needed (length work₀) (number_of r) (beside_of r)
+abbrev pub CheckedSays : List ℕ → ℕ → List ℕ → Case → List ℕ → Result ℕ Refusal → Type 0
+CheckedSays f needed work₀ plan work (Ok n) = OpenedIs f needed work₀ plan work n
+CheckedSays f needed work₀ plan work (Err r) = (length work ≡ length work₀) × OpenRefuses f needed (length work₀) (number_of r) (beside_of r)
 
-abbrev pub OpenSays : List ℕ → ℕ → List ℕ → List ℕ → Result Opened Refusal → Type 0
-OpenSays f needed work₀ work (Ok o) = OpenedIs f needed work₀ o.plan work o.rows
-OpenSays f needed work₀ work (Err r) = (work ≡ zeroed work₀) × OpenRefuses f needed (length work₀) (number_of r) (beside_of r)
+abbrev pub OpenSays : List ℕ → ℕ → List ℕ → Case → List ℕ → Result ℕ Refusal → Type 0
+OpenSays f needed work₀ plan work (Ok n) = OpenedIs f needed work₀ plan work n
+OpenSays f needed work₀ plan work (Err r) = (work ≡ zeroed work₀) × OpenRefuses f needed (length work₀) (number_of r) (beside_of r)

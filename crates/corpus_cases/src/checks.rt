@@ -2,6 +2,7 @@
 // refusal. The work room is lent full of 255. Where the case is accepted, its first rows are the reachable product
 // markings in ascending order of their bytes: the table says which, and the line says so if they differ; nothing is
 // promised of the bytes behind them. After a refusal every byte is a zero, and the line says so if one is not.
+use plan::{PLAN, Plan};
 use rack::WORK_ROOM;
 use report::{Refused, first};
 use std::io;
@@ -13,9 +14,10 @@ const FULL: u8 = 255;
 // The line of one entry.
 fn answer(rt: &impl Print, file: &[u8], table: &[u8], work: &mut [u8]) -> io::Result<()> {
     work.fill(FULL);
-    match admit::open(file, WORK_ROOM, work) {
-        Ok(opened) if first(work, table.len()) == table => println!(rt; "accepted {}", opened.rows),
-        Ok(opened) => println!(rt; "accepted {}, table differs", opened.rows),
+    let mut plan = Plan::from([0; PLAN]);
+    match admit::open(file, WORK_ROOM, &mut plan, work) {
+        Ok(rows) if first(work, table.len()) == table => println!(rt; "accepted {rows}"),
+        Ok(rows) => println!(rt; "accepted {rows}, table differs"),
         Err(refusal) if corpus::still(work, 0, 0) => println!(rt; "{}", Refused::from(refusal)),
         Err(refusal) => println!(rt; "{}, work room not cleared", Refused::from(refusal)),
     }

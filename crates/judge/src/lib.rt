@@ -9,6 +9,7 @@ ghost use Rattle.rack.specs.VerdictOutcome.{VerdictIs};
 ghost use Rattle.judge.specs.CaseJudged.{answer_of, Shown};
 ghost use Rattle.judge.specs.Kinds.{KindSays, LengthSays, ToWrite, PlaceWritten};
 
+use plan::{PLAN, Plan};
 use rack::{Judged, Refusal, Verdict, WORK_ROOM};
 use search::{Place, Searched};
 use steps::table::Table;
@@ -72,12 +73,13 @@ fn judge_file(
 ) -> Result<Judged, Refusal>
     ensures { VerdictIs file.now matching.old other.old work.old (answer_of result) matching.new other.new work.new }
 {
-    let opened = admit::open(file, WORK_ROOM, work)?;
-    let found = search::search(&opened.plan, work, opened.rows);
+    let mut plan = Plan::from([0; PLAN]);
+    let rows = admit::open(file, WORK_ROOM, &mut plan, work)?;
+    let found = search::search(&plan, work, rows);
     let table = Table {
-        plan: &opened.plan,
+        plan: &plan,
         room: work,
-        rows: opened.rows,
+        rows,
     };
     let shown = show(&table, found, matching, other);
     room::clear(work);

@@ -13,8 +13,7 @@ ghost use Rattle.listing.specs.Barred.{Barred};
 ghost use Rattle.listing.specs.CaseListed.{Listing, CaseListed};
 
 use crate::giving::{give, is_good};
-use admit::Opened;
-use plan::Plan;
+use plan::{PLAN, Plan};
 use rack::{LIMIT_MOST, Listed, Refusal, WORK_ROOM};
 use steps::table::Table;
 
@@ -81,7 +80,8 @@ fn of_file(
     ensures { ListingIs file.now limit (asked_of given.entry) room.old work.old (listed_of result) room.new (zeroed work.old) }
 {
     barred(work.len(), limit)?;
-    let Opened { plan, rows } = admit::open(file, WORK_ROOM, work)?;
+    let mut plan = Plan::from([0; PLAN]);
+    let rows = admit::open(file, WORK_ROOM, &mut plan, work)?;
     of_case(&plan, rows, limit, given, room, work)
 }
 

@@ -12,7 +12,7 @@ ghost use Rattle.rack.specs.ReplayOutcome.{ReplayIs, replay_of, replay_refused};
 
 use crate::firing::fire;
 use engine::Product;
-use plan::Plan;
+use plan::{PLAN, Plan};
 use rack::{Outcome, Refusal, Replayed, Stop};
 
 mod firing; // firing.rt: the firings, one after the other
@@ -68,7 +68,8 @@ pub fn retrace(file: &[u8], run: &[u8], budget: u16) -> Replayed
     match reading.outcome {
         Outcome::Refused(_, place) => refused(Refusal::Layout(place)),
         Outcome::Whole => {
-            let plan = Plan::of(&reading.case);
+            let mut plan = Plan::from([0; PLAN]);
+            plan.hold(&reading.case);
             match pattern::check_pattern(&plan) {
                 Err(refusal) => refused(refusal),
                 Ok(()) => replay(&plan, run, budget),

@@ -10,15 +10,15 @@ returns-in_err-barred c =
     let p = err_from_is_err_and c.from_residual.result c.from_residual.ensures.1 in
     rw (p.1, p.2) (barred_outcome c.args.file.now c.args.limit (asked_of c.args.given) c.args.room.now c.args.work.now c.in_err-barred.ensures)
 
-pub returns-in_err-plan : goal.returns-in_err-plan
-returns-in_err-plan c =
-    let p = err_from_is_err_and c.from_residual-in_err-plan.result c.from_residual-in_err-plan.ensures.1 in
+pub returns-in_err-rows : goal.returns-in_err-rows
+returns-in_err-rows c =
+    let p = err_from_is_err_and c.from_residual-in_err-rows.result c.from_residual-in_err-rows.ensures.1 in
     rw (p.1, p.2)
-    (open_refuses c.args.file.now c.args.limit (asked_of c.args.given) c.args.room.now c.args.work.now c.in_ok-barred.ensures c.in_err-plan.ensures.1)
+    (open_refuses c.args.file.now c.args.limit (asked_of c.args.given) c.args.room.now c.args.work.now c.in_ok-barred.ensures c.in_err-rows.ensures.1)
 
 pub of_case-requires : goal.of_case-requires
-of_case-requires c = ready_to_list c.args.file.now c.args.limit (asked_of c.args.given) c.args.room.now c.args.work.now c.in_ok-barred.ensures c.in_ok-plan.ensures
+of_case-requires c = ready_to_list c.args.file.now c.args.limit (asked_of c.args.given) c.args.room.now c.args.work.now c.in_ok-barred.ensures c.in_ok-rows.ensures
 
 pub returns : goal.returns
 returns c =
-    listed_outcome c.args.file.now c.args.limit (asked_of c.args.given) c.args.room.now c.args.work.now c.in_ok-barred.ensures c.in_ok-plan.ensures c.of_case.ensures
+    listed_outcome c.args.file.now c.args.limit (asked_of c.args.given) c.args.room.now c.args.work.now c.in_ok-barred.ensures c.in_ok-rows.ensures c.of_case.ensures

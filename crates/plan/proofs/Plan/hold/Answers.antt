@@ -1,9 +1,9 @@
--- `plan::plan_of` meets its contract: each list fits its place, and stays there, as the next begins behind it. Assumes nothing.
+-- `plan::Plan::hold` meets its contract: each list fits its place, and stays there, as the next begins behind it. Assumes nothing.
 use mathlib.Core.Path.{◌∙◌}
 use native.Mathlib.Omega.{arith}
 use Rattle.plan.proofs.Filling.{held_fill, kept_fill, held_then, kept_then}
 use Rattle.plan.proofs.PlanLaws.{planned-is}
-use Rattle.plan.proofs.Plan.of.Goals as goal
+use Rattle.plan.proofs.Plan.hold.Goals as goal
 
 pub returns : goal.returns
 returns c =
@@ -21,8 +21,7 @@ returns c =
     let from-higher = kept_then (kept_fill c.fill-4.ensures) from-lower (omega arith) in
     let from-labels = kept_then (kept_fill c.fill-3.ensures) from-higher (omega arith) in
     let from-outputs = kept_then (kept_fill c.fill-2.ensures) from-labels (omega arith) in
-    c.from.ensures
-    ∙ planned-is c.requires
+    planned-is c.requires
     (record {
       all = from-log.all;
       inputs = held_then (held_fill c.fill.ensures) from-outputs (omega arith);
