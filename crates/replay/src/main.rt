@@ -35,7 +35,9 @@ fn take_run(rt: &impl Env, run: &mut [u8]) -> Option<()>
     Some(())
 }
 
-// Replays the run on the case of a file. The case is read again for the number of places.
+// Replays the run on the case of a file. The case is read again for the number of places. It has a stack frame of its
+// own, so that a wrong call, which gets one line, takes no room for it.
+#[inline(never)]
 fn answer(rt: &impl Print, file: &[u8], run: &[u8], budget: u16) -> io::Result<()> {
     let case = reader::read_case(file).case;
     let replay = Replay {
