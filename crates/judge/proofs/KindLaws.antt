@@ -12,9 +12,7 @@ use Rattle.rack.specs.Keep.{Goal}
 use Rattle.rack.specs.Verdict.{FirstOfKind}
 use Rattle.rack.specs.Outcome.{holding}
 use Rattle.rack.specs.declared.Case.{Case}
-use Rattle.std.specs.Prelude.{Option, Some, None, Ok, Err}
-use Rattle.rack.specs.Refused.{judged_of}
-use Rattle.rack.specs.declared.Refusal.{Refusal}
+use Rattle.std.specs.Prelude.{Option, Some, None}
 use Rattle.rack.specs.declared.Verdict.{Verdict}
 use Rattle.rack.proofs.OneFirst.{first_one}
 use Rattle.rack.proofs.Nodes.{first_of_nodes, none_of_nodes}
@@ -23,7 +21,7 @@ use Rattle.search.specs.Found.{PlaceSays, SearchSays, RunWritten}
 use Rattle.search.specs.declared.Place.{Place}
 use Rattle.search.specs.declared.Searched.{Searched}
 use Rattle.judge.specs.CaseJudged.{refused_by, Shown, faulty, safe, ambiguous, unexplained, matching_short, other_short}
-use Rattle.judge.specs.Kinds.{KindAt, NoneOfKind, KindIs, KindSays, LengthSays, PlaceWritten}
+use Rattle.judge.specs.Kinds.{KindAt, NoneOfKind, KindIs, KindSays, run_length, PlaceWritten}
 
 -- ---- from the search
 
@@ -126,26 +124,23 @@ module _ {c : Case} {room : List ℕ} {n m : ℕ} where
   show_none x y e f = show_unexplained (subst (KindIs c room n m true) e x.is) (subst (KindIs c room n m false) f y.is)
 
   -- the matching run does not fit
-  pub show_first : (p : Option Place) → KindSays c room n m true p → {matching other : List ℕ} {e : Refusal} → LengthSays p matching (Err e)
-      → Shown c matching other (judged_of e) matching other
-  show_first (Some p) x {matching} {other} l =
-      subst (λ (e : Refusal). Shown c matching other (judged_of e) matching other) (sym l.is.0) (show_matching_short x.is l.is.1)
-  show_first None x l = absurd (cc (l.is))
+  pub show_first : (p : Option Place) → KindSays c room n m true p → {matching other : List ℕ} {l : ℕ} → l ≡ run_length p → length matching < l
+      → Shown c matching other (refused_by 11 l) matching other
+  show_first (Some p) x e h = rw e (show_matching_short x.is (omega (arith, e, h)))
+  show_first None x e h = absurd (omega (arith, e, h))
 
   -- the other run does not fit
-  pub show_second : (p q : Option Place) → KindSays c room n m true p → KindSays c room n m false q → {matching other : List ℕ} {l : ℕ} {e : Refusal} → LengthSays p matching (Ok l)
-      → LengthSays q other (Err e) → Shown c matching other (judged_of e) matching other
-  show_second (Some p) (Some q) x y {matching} {other} l k =
-      subst (λ (e : Refusal). Shown c matching other (judged_of e) matching other) (sym k.is.0) (show_other_short x.is y.is l.is.1 k.is.1)
-  show_second None (Some q) x y {matching} {other} l k =
-      subst (λ (e : Refusal). Shown c matching other (judged_of e) matching other) (sym k.is.0) (show_safe_short x.is y.is k.is.1)
-  show_second p None x y l k = absurd (cc (k.is))
+  pub show_second : (p q : Option Place) → KindSays c room n m true p → KindSays c room n m false q → {matching other : List ℕ} {l k : ℕ} → l ≡ run_length p → l ≤ length matching
+      → k ≡ run_length q → length other < k → Shown c matching other (refused_by 11 k) matching other
+  show_second (Some p) (Some q) x y e h f g = rw f (show_other_short x.is y.is (omega (arith, e, h)) (omega (arith, f, g)))
+  show_second None (Some q) x y e h f g = rw f (show_safe_short x.is y.is (omega (arith, f, g)))
+  show_second p None x y e h f g = absurd (omega (arith, f, g))
 
   -- each run that there is fits
-  pub show_runs : (p q : Option Place) → KindSays c room n m true p → KindSays c room n m false q → {matching other : List ℕ} {a b : ℕ} → LengthSays p matching (Ok a)
-      → LengthSays q other (Ok b) → {matching' other' : List ℕ} → PlaceWritten c room p matching matching' → PlaceWritten c room q other other' → {v : Verdict} → Word p q v
-      → Shown c matching other (record { verdict = v; matching = a; other = b }) matching' other'
-  show_runs (Some p) None x y {b = b} l k w u e = let none : b ≡ 0 = cc (k.is) in rw (e, l.is.0, none, u.is) (show_faulty x.is y.is l.is.1 w.is)
-  show_runs None (Some q) x y {a = a} l k w u e = let none : a ≡ 0 = cc (l.is) in rw (e, none, k.is.0, w.is) (show_safe x.is y.is k.is.1 u.is)
-  show_runs (Some p) (Some q) x y l k w u e = rw (e, l.is.0, k.is.0) (show_ambiguous x.is y.is l.is.1 k.is.1 w.is u.is)
-  show_runs None None x y l k w u e = absurd e
+  pub show_runs : (p q : Option Place) → KindSays c room n m true p → KindSays c room n m false q → {matching other : List ℕ} {l k : ℕ} → l ≡ run_length p → l ≤ length matching
+      → k ≡ run_length q → k ≤ length other → {matching' other' : List ℕ} → PlaceWritten c room p matching matching' → PlaceWritten c room q other other' → {v : Verdict} → Word p q v
+      → Shown c matching other (record { verdict = v; matching = l; other = k }) matching' other'
+  show_runs (Some p) None x y e h f g w u v = rw (v, e, f, u.is) (show_faulty x.is y.is (omega (arith, e, h)) w.is)
+  show_runs None (Some q) x y e h f g w u v = rw (v, e, f, w.is) (show_safe x.is y.is (omega (arith, f, g)) u.is)
+  show_runs (Some p) (Some q) x y e h f g w u v = rw (v, e, f) (show_ambiguous x.is y.is (omega (arith, e, h)) (omega (arith, f, g)) w.is u.is)
+  show_runs None None x y e h f g w u v = absurd v

@@ -1,6 +1,6 @@
 -- What the verdict takes from the search: of each kind the first explanation, by where the search met its end; or that there is none.
 -- Assumes nothing.
-use Rattle.std.specs.Prelude.{ℕ, ◌≡◌, ◌≤◌, ◌<◌, Bool, List, length, Option, Some, None, Result, Ok, Err}
+use Rattle.std.specs.Prelude.{ℕ, ◌≡◌, ◌≤◌, Bool, List, length, Option, Some, None}
 use Rattle.walks.specs.Back.{BackTo}
 use Rattle.rack.specs.Run.{Explains, matches}
 use Rattle.rack.specs.Keep.{moves, onto}
@@ -11,8 +11,6 @@ use Rattle.search.specs.Nodes.{id_at}
 use Rattle.search.specs.GoingBack.{MetAt}
 use Rattle.search.specs.declared.Place.{Place}
 use Rattle.search.specs.Found.{RunWritten}
-use Rattle.rack.specs.declared.Refusal.{Refusal}
-use Rattle.rack.specs.declared.Refusal.TheVariants.{LentRoom}
 
 -- the first explanation of the kind k is `depth` firings long, and going back from the node at the rank gives it
 pub record KindAt (c : Case) (room : List ℕ) (n met : ℕ) (k : Bool) (rank depth : ℕ) : Type 0 where
@@ -33,14 +31,10 @@ KindIs c room n met k None = NoneOfKind c k
 pub record KindSays (c : Case) (room : List ℕ) (n met : ℕ) (k : Bool) (p : Option Place) : Type 0 where
   pub is : KindIs c room n met k p
 
--- the length of the run to the place, 0 where there is none; or the refusal, where it does not fit
-abbrev pub LengthIs : Option Place → List ℕ → Result ℕ Refusal → Type 0
-LengthIs None out r = r ≡ Ok 0
-LengthIs (Some p) out (Ok l) = (l ≡ p.depth) × (p.depth ≤ length out)
-LengthIs (Some p) out (Err e) = (e ≡ LentRoom p.depth) × (length out < p.depth)
-
-pub record LengthSays (p : Option Place) (out : List ℕ) (r : Result ℕ Refusal) : Type 0 where
-  pub is : LengthIs p out r
+-- how long the run to the place is, 0 where there is none
+abbrev pub run_length : Option Place → ℕ
+run_length None = 0
+run_length (Some p) = p.depth
 
 -- the run to the place, if there is one, can be written
 abbrev pub CanWrite : Case → List ℕ → ℕ → ℕ → Option Place → List ℕ → Type 0

@@ -4,27 +4,21 @@
 
 #![tactic(auto)]
 
-ghost use Rattle.std.specs.Prelude.{true, false};
+ghost use Rattle.std.specs.Prelude.{◌≡◌, true, false};
 ghost use Rattle.rack.specs.VerdictOutcome.{VerdictIs};
 ghost use Rattle.judge.specs.CaseJudged.{answer_of, Shown};
-ghost use Rattle.judge.specs.Kinds.{KindSays, LengthSays, ToWrite, PlaceWritten};
+ghost use Rattle.judge.specs.Kinds.{KindSays, run_length, ToWrite, PlaceWritten};
 
 use plan::{PLAN, Plan};
 use rack::{Judged, Refusal, Verdict, WORK_ROOM};
 use search::{Place, Searched};
 use steps::table::Table;
 
-// How long the run to a place is, 0 where there is none: it has to fit the room that is lent for it.
-fn length_in(place: Option<Place>, out: &[u8]) -> Result<usize, Refusal>
-    ensures { LengthSays place out.now result }
+// How long the run to a place is, 0 where there is none.
+fn length(place: Option<Place>) -> usize
+    ensures { result ≡ run_length place }
 {
-    let Some(place) = place else {
-        return Ok(0);
-    };
-    if out.len() < place.depth {
-        return Err(Refusal::LentRoom(place.depth));
-    }
-    Ok(place.depth)
+    place.map_or(0, |place| place.depth)
 }
 
 // Writes the run to a place, if there is one, to the front of out.
@@ -56,9 +50,15 @@ fn show(
     };
     let judged = Judged {
         verdict,
-        matching: length_in(found.matching, matching)?,
-        other: length_in(found.other, other)?,
+        matching: length(found.matching),
+        other: length(found.other),
     };
+    if matching.len() < judged.matching {
+        return Err(Refusal::LentRoom(judged.matching));
+    }
+    if other.len() < judged.other {
+        return Err(Refusal::LentRoom(judged.other));
+    }
     write(table, found.met, found.matching, matching);
     write(table, found.met, found.other, other);
     Ok(judged)
